@@ -10,7 +10,7 @@ use Rattle.plan_basics.specs.declared.keys.OpKey.{OpKey}
 use Rattle.plan_status.specs.status_rules.specs.Classes.{is_live}
 use Rattle.plan_status.specs.status_rules.specs.declared.Mark.{Mark}
 use Rattle.plan_status.specs.status_rules.specs.declared.Mark.TheVariants as mark
-use Rattle.satisfaction.specs.declared.kept.Rule.{Rule}
+use Rattle.satisfaction.specs.declared.nodes.Rule.{Rule}
 use Rattle.satisfaction.specs.Counters.{IsGiven, IsPassing, no_rule, rule_at}
 use Rattle.plan_status.specs.plan_model.specs.Contents.{Contents, Operation, attribute_at}
 use Rattle.plan_status.specs.plan_model.specs.Status.{IsDoneOrDeleted, NeedsNoReport, PassesByItself}

@@ -5,7 +5,7 @@ use Rattle.plan_basics.specs.declared.Attr.{Attr}
 use Rattle.plan_basics.specs.declared.Attr.TheVariants.{Nonreporting}
 use Rattle.plan_status.specs.status_rules.specs.declared.Mark.{Mark}
 use Rattle.plan_status.specs.status_rules.specs.declared.Mark.TheVariants as mark
-use Rattle.satisfaction.specs.declared.kept.Rule.{Rule}
+use Rattle.satisfaction.specs.declared.nodes.Rule.{Rule}
 use Rattle.plan_status.specs.plan_model.specs.Contents.{Contents, Operation, attribute_at}
 
 -- it is done or deleted

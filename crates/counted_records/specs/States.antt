@@ -5,16 +5,16 @@ use Rattle.plan_status.specs.plan_model.specs.Contents.{Contents}
 use Rattle.plan_status.specs.plan_model.specs.Code.{contents_code}
 
 -- what the plan holds, and how many of its operations' records were looked at
-pub record ShownState : Type 0 where
+pub record CountedState : Type 0 where
   pub contents : Contents
   pub looks : ℕ
 
 -- it is stored as its two parts
-abbrev pub shown_code : Coded ShownState
-shown_code = code_by (Contents × ℕ) (coded× contents_code coded_ℕ) (λ s. (s.contents, s.looks)) (λ p. record { contents = p.0; looks = p.1 }) (λ _. refl)
+abbrev pub counted_code : Coded CountedState
+counted_code = code_by (Contents × ℕ) (coded× contents_code coded_ℕ) (λ s. (s.contents, s.looks)) (λ p. record { contents = p.0; looks = p.1 }) (λ _. refl)
 
 -- the plan stays, and one more record was looked at; the greatest number that there is counts for all that are greater
-pub record IsOneLook (old new : ShownState) : Type 0 where
+pub record IsOneLook (old new : CountedState) : Type 0 where
   pub contents : new.contents ≡ old.contents
   pub fewest : old.looks ≤ new.looks
   pub most : new.looks ≤ old.looks + 1

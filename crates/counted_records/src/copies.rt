@@ -11,8 +11,8 @@ ghost use Rattle.plan_changes.specs.plan_records.specs.Changes.{Changes, with_ad
 ghost use Rattle.plan_changes.specs.plan_records.specs.declared.What.TheVariants as what;
 ghost use Rattle.counted_records.specs.Leaving.{is_one_of};
 
+use super::counted::CountedRecords;
 use super::leaving::with_only;
-use super::shown::Shown;
 use plan_basics::{OccKey, OpKey};
 use plan_changes::{
     ExtensionParts, PlanContents, PlanDraft, copies_of, deleted, with_addition, with_pair,
@@ -97,15 +97,15 @@ impl RecordCopy {
     }
 
     /// What it holds, which is sound, shown: nothing was looked at.
-    pub fn into_shown(self) -> Shown
+    pub fn into_shown(self) -> CountedRecords
         requires { IsSound self }
         ensures { result ≡ record { contents = self; looks = 0 } }
     {
-        Shown::of_rows(self.contents, 0)
+        CountedRecords::of_rows(self.contents, 0)
     }
 }
 
-impl Shown {
+impl CountedRecords {
     // The row of the operation at a place: a look.
     fn row_at(&mut self, place: usize) -> (OpKey, OperationRecord)
         requires { place < length (entries self.old.contents.operations) }
@@ -125,7 +125,7 @@ impl Shown {
         ensures most { self.new.looks ≤ self.old.looks + length (entries self.old.contents.operations) }
         ensures least { OnOk result ((18446744073709551615 ≤ self.new.looks) ⊎ (self.old.looks + length (entries self.old.contents.operations) ≤ self.new.looks)) }
     {
-        let count = self.beside().operation_count();
+        let count = self.uncounted().operation_count();
         let mut rows = Vec::with_capacity(alloc, count)?;
         for place in 0..count {
             rows.push(self.row_at(place))?;
@@ -142,11 +142,11 @@ impl Shown {
         requires { operations.items ≡ entries self.now.contents.operations }
         ensures { IfOk result (λ copy. copy ≡ self.now.contents) }
     {
-        let beside = self.beside();
-        let workstations = copies_of(alloc, beside.workstations())?;
-        let resources = Vec::from_slice(alloc, beside.resources())?;
-        let occurrences = Vec::from_slice(alloc, beside.occurrences())?;
-        let pairs = Vec::from_slice(alloc, beside.pairs())?;
+        let uncounted = self.uncounted();
+        let workstations = copies_of(alloc, uncounted.workstations())?;
+        let resources = Vec::from_slice(alloc, uncounted.resources())?;
+        let occurrences = Vec::from_slice(alloc, uncounted.occurrences())?;
+        let pairs = Vec::from_slice(alloc, uncounted.pairs())?;
         let contents = PlanContents::of_rows(
             workstations,
             resources,
@@ -166,7 +166,7 @@ impl Shown {
         ensures sound { OnOk result (IsSound self.old.contents) }
     {
         let operations = self.rows_of(alloc)?;
-        self.beside().are_sound();
+        self.uncounted().are_sound();
         self.with_rows(alloc, operations)
     }
 }

@@ -4,12 +4,12 @@ ghost use Rattle.std.specs.FinMap.{contains_key};
 ghost use Rattle.plan_changes.specs.Markings.{WereMarked, marking_at};
 ghost use Rattle.plan_status.specs.plan_model.specs.Contents.{IsInPlan};
 
-use super::shown::Shown;
+use super::counted::CountedRecords;
 use plan_basics::OpKey;
 use plan_status::{Mark, Marking};
 use std::alloc::{AllocError, Global};
 
-impl Shown {
+impl CountedRecords {
     // The marking of the operation of a key that has one: a look.
     fn marking_of(&mut self, key: &OpKey) -> Marking
         requires { contains_key self.old.contents.operations key.now ≡ true }
@@ -18,7 +18,7 @@ impl Shown {
         ensures fewest { self.old.looks ≤ self.new.looks }
         ensures most { self.new.looks ≤ self.old.looks + 1 }
     {
-        let place = self.beside().known_operation_place(key);
+        let place = self.uncounted().known_operation_place(key);
         let seen = self.see(place);
         Marking::of(seen.operation)
     }

@@ -2,7 +2,7 @@
 ghost use Rattle.std.specs.Prelude.{◌≡◌, Some};
 ghost use Rattle.counted_records.specs.Rules.{rule_on, rules_of};
 
-use super::shown::Shown;
+use super::counted::CountedRecords;
 use plan_basics::Attr;
 use plan_changes::PlanContents;
 use plan_status::{Mark, OperationRecord};
@@ -21,7 +21,7 @@ fn rule_on(attribute: Attr, operation: &OperationRecord) -> Rule
 }
 
 /// The rules of a plan's operations, read off their records: one look for each.
-impl Rules for Shown {
+impl Rules for CountedRecords {
     type Source = PlanContents;
 
     ghost source = { λ s. s.contents };
@@ -33,7 +33,7 @@ impl Rules for Shown {
     fn rule_of(&mut self, node: usize) -> Rule {
         let seen = self.see(node);
         rule_on(
-            seen.beside.attribute_of(seen.operation, node),
+            seen.uncounted.attribute_of(seen.operation, node),
             seen.operation,
         )
     }

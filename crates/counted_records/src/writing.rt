@@ -11,63 +11,63 @@ ghost use Rattle.plan_status.specs.plan_model.specs.Valid.{IsSound};
 ghost use Rattle.plan_changes.specs.plan_records.specs.Changes.{is_at, revised, with_added};
 ghost use Rattle.plan_changes.specs.ready_list.specs.Choice.{is_among};
 
-use super::shown::Shown;
+use super::counted::CountedRecords;
 use plan_basics::{OpKey, ResName};
 use plan_changes::{ExtensionParts, with_addition};
 use plan_status::{Mark, Marking, Workstation};
 use std::alloc::{AllocError, Global};
 
-impl Shown {
+impl CountedRecords {
     /// With this mark on these operations, by which it stays sound. A key that has no operation is passed over. It takes no memory.
-    pub fn mark_all(self, keys: &[OpKey], mark: &Mark) -> Shown
+    pub fn mark_all(self, keys: &[OpKey], mark: &Mark) -> CountedRecords
         requires { IsSound (revised (is_among keys.now) (with_mark mark.now) self.contents) }
         ensures contents { result.contents ≡ revised (is_among keys.now) (with_mark mark.now) self.contents }
         ensures looks { result.looks ≡ self.looks }
     {
         let (mut rows, looks) = self.into_rows();
         plan_changes::mark_all(&mut rows, keys, mark);
-        Shown::of_rows(rows, looks)
+        CountedRecords::of_rows(rows, looks)
     }
 
     /// With an operation held, or not held any more, by which it stays sound. A key that has no operation is passed over. It takes
     /// no memory.
-    pub fn set_held(self, key: &OpKey, held: bool) -> Shown
+    pub fn set_held(self, key: &OpKey, held: bool) -> CountedRecords
         requires { IsSound (revised (is_at key.now) (λ op. record op { held = held }) self.contents) }
         ensures contents { result.contents ≡ revised (is_at key.now) (λ op. record op { held = held }) self.contents }
         ensures looks { result.looks ≡ self.looks }
     {
         let (mut rows, looks) = self.into_rows();
         plan_changes::set_held(&mut rows, key, held);
-        Shown::of_rows(rows, looks)
+        CountedRecords::of_rows(rows, looks)
     }
 
     /// With an operation as a no-operation, or as one that is carried out again, by which it stays sound. A key that has no
     /// operation is passed over. It takes no memory.
-    pub fn set_nop(self, key: &OpKey, nop: bool) -> Shown
+    pub fn set_nop(self, key: &OpKey, nop: bool) -> CountedRecords
         requires { IsSound (revised (is_at key.now) (λ op. record op { nop = nop }) self.contents) }
         ensures contents { result.contents ≡ revised (is_at key.now) (λ op. record op { nop = nop }) self.contents }
         ensures looks { result.looks ≡ self.looks }
     {
         let (mut rows, looks) = self.into_rows();
         plan_changes::set_nop(&mut rows, key, nop);
-        Shown::of_rows(rows, looks)
+        CountedRecords::of_rows(rows, looks)
     }
 
     /// The sound plan in which these operations had these markings, one for each, and from which no more than their markings
     /// differ. It takes no memory.
-    pub fn put_markings(self, keys: &[OpKey], marks: &[Marking]) -> Shown
+    pub fn put_markings(self, keys: &[OpKey], marks: &[Marking]) -> CountedRecords
         requires { (P : Contents) × IsSound P × DifferInMarks P self.contents keys.now × WereMarked P keys.now marks.now }
         ensures contents { (P : Contents) → DifferInMarks P self.contents keys.now → WereMarked P keys.now marks.now → result.contents ≡ P }
         ensures looks { result.looks ≡ self.looks }
     {
         let (mut rows, looks) = self.into_rows();
         plan_changes::put_markings(&mut rows, keys, marks);
-        Shown::of_rows(rows, looks)
+        CountedRecords::of_rows(rows, looks)
     }
 
     /// With a special resource that it has available, or not, by which it stays sound; there is as much of it as before. It takes
     /// no memory.
-    pub fn set_available(self, name: &ResName, available: bool) -> Shown
+    pub fn set_available(self, name: &ResName, available: bool) -> CountedRecords
         requires has_place { contains_key self.contents.resources name.now ≡ true }
         requires sound { IsSound (record self.contents { resources = revise (with_availability name.now available) self.contents.resources }) }
         ensures contents { result.contents ≡ record self.contents { resources = revise (with_availability name.now available) self.contents.resources } }
@@ -75,11 +75,11 @@ impl Shown {
     {
         let (mut rows, looks) = self.into_rows();
         rows.set_available(name, available);
-        Shown::of_rows(rows, looks)
+        CountedRecords::of_rows(rows, looks)
     }
 
     /// With this workstation in place of the one that has its name, by which it stays sound. It takes no memory.
-    pub fn set_workstation(self, workstation: Workstation) -> Shown
+    pub fn set_workstation(self, workstation: Workstation) -> CountedRecords
         requires has_place { contains_key self.contents.workstations workstation.0 ≡ true }
         requires sound { IsSound (record self.contents { workstations = insert self.contents.workstations workstation.0 workstation.1 }) }
         ensures contents { result.contents ≡ record self.contents { workstations = insert self.contents.workstations workstation.0 workstation.1 } }
@@ -87,7 +87,7 @@ impl Shown {
     {
         let (mut rows, looks) = self.into_rows();
         rows.set_workstation(workstation);
-        Shown::of_rows(rows, looks)
+        CountedRecords::of_rows(rows, looks)
     }
 
     /// With what is added, of which it holds nothing yet and by which it stays sound; or as it was, where no memory is found.
@@ -95,7 +95,7 @@ impl Shown {
         self,
         alloc: Global,
         parts: &ExtensionParts,
-    ) -> (Shown, Result<(), AllocError>)
+    ) -> (CountedRecords, Result<(), AllocError>)
         requires in_order { AreExtensionParts parts.now }
         requires apart { HasNothingOf self.contents (added_of parts.now) }
         requires sound { IsSound (with_added self.contents (added_of parts.now)) }
@@ -103,11 +103,11 @@ impl Shown {
         ensures unchanged { IfErr result.1 (λ _. result.0.contents ≡ self.contents) }
         ensures looks { result.0.looks ≡ self.looks }
     {
-        self.beside().are_sound();
+        self.uncounted().are_sound();
         let (rows, looks) = self.into_rows();
         match with_addition(alloc, &rows, parts) {
-            Ok(new) => (Shown::of_rows(new, looks), Ok(())),
-            Err(error) => (Shown::of_rows(rows, looks), Err(error)),
+            Ok(new) => (CountedRecords::of_rows(new, looks), Ok(())),
+            Err(error) => (CountedRecords::of_rows(rows, looks), Err(error)),
         }
     }
 }

@@ -59,8 +59,8 @@ length_put x es = omega (arith, length_placed (comes_before x.key) x (without x.
 
 left_by : (k : ReadyKey) (es : Entries) (e : ReadyEntry) → Contains (without k es) e → Contains es e × (e.key ≢ k)
 left_by k es e has =
-    let kept = contains_from_filter (λ (x : ReadyEntry). not (has_key k x)) es e has in
-    (kept.0, λ is. true≢false (sym (has_its_key e k is) ∙ false_from_not (has_key k e) kept.1))
+    let wait_states = contains_from_filter (λ (x : ReadyEntry). not (has_key k x)) es e has in
+    (wait_states.0, λ is. true≢false (sym (has_its_key e k is) ∙ false_from_not (has_key k e) wait_states.1))
 
 left_in : (k : ReadyKey) (es : Entries) (e : ReadyEntry) → Contains es e → e.key ≢ k → Contains (without k es) e
 left_in k es e has apart = contains_filter (λ (x : ReadyEntry). not (has_key k x)) es e (not_false (has_key k e) (other_key e k apart)) has

@@ -75,8 +75,8 @@ count_less S k n this c = (length others, one_count S n (length others + 1) c (c
 
     there : (o : OpKey) → Contains others o → S o × (o ≢ k)
     there o has =
-        let kept = contains_from_filter is_other c.0 o has in
-        ((c.2 o).0 kept.0, λ e. true≢false (sym kept.1 ∙ ap not (ap (λ z. eq_by_cmp operation_cmp z k) e ∙ itself operation_cmp_total operation_cmp-IsAntisymmetric k)))
+        let wait_states = contains_from_filter is_other c.0 o has in
+        ((c.2 o).0 wait_states.0, λ e. true≢false (sym wait_states.1 ∙ ap not (ap (λ z. eq_by_cmp operation_cmp z k) e ∙ itself operation_cmp_total operation_cmp-IsAntisymmetric k)))
 
     back : (o : OpKey) → S o × (o ≢ k) → Contains others o
     back o h = contains_filter is_other c.0 o (not_false (eq_by_cmp operation_cmp o k) (other_key operation_cmp_total operation_cmp-IsAntisymmetric o k h.1)) ((c.2 o).1 h.0)

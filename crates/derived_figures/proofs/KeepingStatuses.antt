@@ -16,9 +16,9 @@ use Rattle.start_choice.specs.plan_status.proofs.ByStanding.{status_on}
 use Rattle.start_choice.specs.plan_status.proofs.LoadedRows.{row_found}
 use Rattle.start_choice.specs.plan_status.specs.Standings.{AreStandings, IsStanding}
 use Rattle.start_choice.specs.plan_status.specs.declared.standings.Standing.{Standing}
-use Rattle.derived_figures.specs.RestatingBefore.{KeepStatus}
-use Rattle.derived_figures.specs.Restanding.{StayElsewhere}
-use Rattle.derived_figures.proofs.RestatingMoved.{attribute_before}
+use Rattle.derived_figures.specs.StatusesBefore.{KeepStatus}
+use Rattle.derived_figures.specs.StandingChanges.{StayElsewhere}
+use Rattle.derived_figures.proofs.StatusesKept.{attribute_before}
 
 module _ (P Q : Contents) (moved_at : List ℕ) (moved : IsMovedAt P Q moved_at) (valid : IsValid Q) where
   status_stays : (o : OpKey) (op : Operation) → get P.operations o ≡ Some op → get Q.operations o ≡ Some op → (s : Standing) → IsStanding P o s → IsStanding Q o s → (t : Status) → HasStatus P o t → HasStatus Q o t

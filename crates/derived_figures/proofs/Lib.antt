@@ -14,10 +14,10 @@ pub mod Entering
 pub mod Exchanged
 pub mod Fewness
 pub mod KeepingStatuses
-pub mod RestatingMoved
+pub mod StatusesKept
 pub mod Noted
 pub mod Numbers
-pub mod PlacesBeside
+pub mod PlacesUnknown
 pub mod Read
-pub mod Restated
-pub mod Restood
+pub mod StatusesMoved
+pub mod StandingsMoved

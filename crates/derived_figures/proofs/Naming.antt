@@ -5,7 +5,7 @@ use Rattle.std.proofs.lemmas.Option.{same_Some}
 use Rattle.plan_basics.specs.Keys.{operation_cmp, operation_cmp_total, operation_cmp-IsAntisymmetric}
 use Rattle.plan_basics.specs.declared.keys.OpKey.{OpKey}
 use Rattle.ready_list.specs.Choice.{is_among}
-use Rattle.start_choice.specs.satisfaction.specs.declared.kept.Kept.{Kept}
+use Rattle.start_choice.specs.satisfaction.specs.declared.nodes.WaitState.{WaitState}
 use Rattle.plan_model.proofs.Looks.{as_named}
 use Rattle.plan_model.specs.Contents.{Contents}
 use Rattle.plan_model.specs.Ready.{named}
@@ -15,7 +15,7 @@ use Rattle.start_choice.specs.plan_drafts.proofs.MadeEntries.{each_made, entries
 use Rattle.start_choice.specs.plan_drafts.specs.Places.{AreByPlace}
 use Rattle.start_choice.specs.plan_status.proofs.Alike.{count_alike}
 use Rattle.start_choice.specs.plan_status.proofs.Naming.{live_after, live_before, stays_satisfied, was_satisfied}
-use Rattle.derived_figures.specs.Kept.{IsKept, NamingKeepsKept}
+use Rattle.derived_figures.specs.WaitStates.{IsKept, NamingKeepsKept}
 
 module _ {K V : Type 0} (f : K → V → V) where
   -- a row that is made anew has the key of the row at its place
@@ -32,7 +32,7 @@ module _ {K V : Type 0} (f : K → V → V) where
   }
 
 module _ (P : Contents) (os : List OpKey) (ready : (k : OpKey) → is_among os k ≡ true → IsReady P k) where
-  stays_kept : (o : OpKey) (k : Kept) → IsKept P o k → IsKept (named os P) o k
+  stays_kept : (o : OpKey) (k : WaitState) → IsKept P o k → IsKept (named os P) o k
   stays_kept o k is = (
     (λ on. stays_satisfied P os ready (is.0.0 on), λ s. is.0.1 (was_satisfied P os ready s)),
     count_alike
@@ -42,6 +42,6 @@ module _ (P : Contents) (os : List OpKey) (ready : (k : OpKey) → is_among os k
   )
 
 pub naming_keeps_kept : NamingKeepsKept
-naming_keeps_kept P os ready kept are =
-    subst (λ rows. AreByPlace rows kept (IsKept (named os P))) (sym (entries-revise operation_cmp operation_cmp_total operation_cmp-IsAntisymmetric (as_named os) P.operations))
-    (known_stays (as_named os) (IsKept P) (IsKept (named os P)) (entries P.operations) kept (stays_kept P os ready) are)
+naming_keeps_kept P os ready wait_states are =
+    subst (λ rows. AreByPlace rows wait_states (IsKept (named os P))) (sym (entries-revise operation_cmp operation_cmp_total operation_cmp-IsAntisymmetric (as_named os) P.operations))
+    (known_stays (as_named os) (IsKept P) (IsKept (named os P)) (entries P.operations) wait_states (stays_kept P os ready) are)

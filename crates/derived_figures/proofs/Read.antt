@@ -28,12 +28,12 @@ use Rattle.start_choice.specs.plan_status.proofs.RowKeys.{key_of_row, row_of_key
 use Rattle.start_choice.specs.plan_status.specs.Standings.{AreTallies, BelongsWithStatus, IsTally}
 use Rattle.start_choice.proofs.Readied.{ready_in_plan}
 use Rattle.start_choice.specs.Choices.{AreLatestStarts, AreReadyEntries, HasItsWorkstation}
-use Rattle.derived_figures.specs.RestatingBefore.{AreReadOff}
+use Rattle.derived_figures.specs.StatusesBefore.{AreReadOff}
 use Rattle.start_choice.specs.ReadyItems.{IsKeyIn}
 use Rattle.derived_figures.specs.ByStatuses.{AreEntriesBy, AreInLine, AreTalliesBy, BelongsBy, CountsAsStarted, HasListed, IsReadyBy, IsTallyBy}
 use Rattle.derived_figures.specs.Entries.{AreEntriesAt}
 use Rattle.derived_figures.proofs.Entering.{one_key}
-use Rattle.derived_figures.proofs.RestatingMoved.{attribute_after, moved_back, remarked_by, row_after, same_keys, same_workstations}
+use Rattle.derived_figures.proofs.StatusesKept.{attribute_after, moved_back, remarked_by, row_after, same_keys, same_workstations}
 
 -- an operation of the plan has a latest start
 some_start : (P : Contents) (starts : List ℤ) → AreLatestStarts P starts → (o : OpKey) (op : Operation) → get P.operations o ≡ Some op → (v : ℤ) × IsLatestStart P o v

@@ -12,8 +12,8 @@ use Rattle.status_rules.proofs.Live.{live_mark}
 use Rattle.status_rules.specs.Classes.{is_live}
 use Rattle.status_rules.specs.LeastSet.{by_all_before, by_given}
 use Rattle.start_choice.specs.satisfaction.proofs.Counting.{edge_is_one, no_edge_is_none}
-use Rattle.start_choice.specs.satisfaction.specs.declared.kept.Kept.{Kept}
-use Rattle.start_choice.specs.satisfaction.specs.Counters.{AreRight, IsSatisfiedBy, edge_count, is_satisfied_at, kept_at, nothing_kept, unsatisfied_before, unsatisfied_below}
+use Rattle.start_choice.specs.satisfaction.specs.declared.nodes.WaitState.{WaitState}
+use Rattle.start_choice.specs.satisfaction.specs.Counters.{AreRight, IsSatisfiedBy, edge_count, is_satisfied_at, wait_state_at, no_wait_state, unsatisfied_before, unsatisfied_below}
 use Rattle.plan_model.proofs.Entries.{entries_are, entries_in_order}
 use Rattle.plan_model.specs.Contents.{Contents, IsLive, LivePredecessor, Operation, Precedes}
 use Rattle.plan_model.specs.Status.{IsSatisfied}
@@ -25,7 +25,7 @@ use Rattle.start_choice.specs.plan_status.proofs.RowKeys.{key_of_row, row_of_key
 use Rattle.start_choice.specs.plan_status.proofs.SoMany.{IsSoMany, all_counted, none_before, one_more_row}
 use Rattle.start_choice.specs.plan_status.specs.OneMore.{RisesIf}
 use Rattle.start_choice.specs.counted_records.proofs.RowRules.{dead_mark, given_there, is_given, passing_there, rules_size, there_given, there_passing}
-use Rattle.derived_figures.specs.Kept.{AreKept, IsKept}
+use Rattle.derived_figures.specs.WaitStates.{AreWaitStates, IsKept}
 use Rattle.start_choice.specs.counted_records.specs.Rules.{rules_of}
 
 -- an operation and its row stand at this place
@@ -33,8 +33,8 @@ abbrev pub StandsAt : Contents → ℕ → OpKey → Operation → Type 0
 StandsAt P i o op = slice_get (entries P.operations) i ≡ Some (o, op)
 
 -- what is kept at an operation's place
-pub kept_there : (P : Contents) (kept : List Kept) → AreKept P kept → (i : ℕ) (o : OpKey) (op : Operation) → StandsAt P i o op → IsKept P o (kept_at kept i)
-kept_there P kept are i o op at = are.each i o op (kept_at kept i) at (slice_get-get_or kept i nothing_kept (let within = slice_get_within (entries P.operations) i (o, op) at in omega (arith, within, are.size)))
+pub kept_there : (P : Contents) (wait_states : List WaitState) → AreWaitStates P wait_states → (i : ℕ) (o : OpKey) (op : Operation) → StandsAt P i o op → IsKept P o (wait_state_at wait_states i)
+kept_there P wait_states are i o op at = are.each i o op (wait_state_at wait_states i) at (slice_get-get_or wait_states i no_wait_state (let within = slice_get_within (entries P.operations) i (o, op) at in omega (arith, within, are.size)))
 
 module _ (P : Contents) (g : Digraph) (graph : IsGraphFor P g) where
   abbrev rows : List (OpKey × Operation)
@@ -95,21 +95,21 @@ module _ (P : Contents) (g : Digraph) (graph : IsGraphFor P g) where
 
   -- ---- how many aren't satisfied
 
-  module _ (kept : List Kept) (flags : (i : ℕ) (o : OpKey) (op : Operation) → StandsAt P i o op → (is_satisfied_at kept i ≡ true) ↔ IsSatisfied P o)
+  module _ (wait_states : List WaitState) (flags : (i : ℕ) (o : OpKey) (op : Operation) → StandsAt P i o op → (is_satisfied_at wait_states i ≡ true) ↔ IsSatisfied P o)
       (n : ℕ) (o : OpKey) (op : Operation) (at : StandsAt P n o op) where
     abbrev Waits : OpKey → Type 0
     Waits p = LivePredecessor P p o × ¬ IsSatisfied P p
 
     abbrev below : ℕ → ℕ
-    below m = unsatisfied_below g kept m n
+    below m = unsatisfied_below g wait_states m n
 
     counts_one : (m : ℕ) (p : OpKey) (x : Operation) → StandsAt P m p x → RisesIf (Waits p) (below m) (below (suc m))
-    counts_one m p x at_m = elim (cases_Bool (is_satisfied_at kept m)) [
+    counts_one m p x at_m = elim (cases_Bool (is_satisfied_at wait_states m)) [
       | inl on ↦
-          let none : cond {A = ℕ} (is_satisfied_at kept m) 0 (edge_count g m n) ≡ 0 = ap (λ f. cond {A = ℕ} f 0 (edge_count g m n)) on in
+          let none : cond {A = ℕ} (is_satisfied_at wait_states m) 0 (edge_count g m n) ≡ 0 = ap (λ f. cond {A = ℕ} f 0 (edge_count g m n)) on in
           inr (λ waits. waits.1 ((flags m p x at_m).0 on), omega (arith, none))
       | inr off ↦
-          let count : cond {A = ℕ} (is_satisfied_at kept m) 0 (edge_count g m n) ≡ edge_count g m n = ap (λ f. cond {A = ℕ} f 0 (edge_count g m n)) off in
+          let count : cond {A = ℕ} (is_satisfied_at wait_states m) 0 (edge_count g m n) ≡ edge_count g m n = ap (λ f. cond {A = ℕ} f 0 (edge_count g m n)) off in
           let never : ¬ IsSatisfied P p = λ s. true≢false (sym ((flags m p x at_m).1 s) ∙ off) in
           elim (cases_Bool (contains g.edges (m, n))) [
             | inl edge ↦
@@ -129,39 +129,39 @@ module _ (P : Contents) (g : Digraph) (graph : IsGraphFor P g) where
         more : (m : ℕ) → m + 1 ≡ suc m
         more m = omega arith
 
-    pub waits_for : IsWaitingFor P o (unsatisfied_before g kept n)
+    pub waits_for : IsWaitingFor P o (unsatisfied_before g wait_states n)
     waits_for = all_counted rows Waits
         (λ p waits. (waits.0.1.0, ap (λ m. get m p) (entries_are operation_cmp operation_cmp_total operation_cmp-IsAntisymmetric P.operations) ∙ waits.0.1.1))
-        g.nodes (unsatisfied_before g kept n) as_many (counted g.nodes (omega (arith, as_many)))
+        g.nodes (unsatisfied_before g wait_states n) as_many (counted g.nodes (omega (arith, as_many)))
 
   -- ---- both ways
 
-  pub right_from_kept : (kept : List Kept) → AreKept P kept → AreRight g (rules_of P) kept
-  right_from_kept kept are = record {
+  pub right_from_kept : (wait_states : List WaitState) → AreWaitStates P wait_states → AreRight g (rules_of P) wait_states
+  right_from_kept wait_states are = record {
     size = are.size ∙ sym as_many;
     rules_size = rules_size P ∙ sym as_many;
     satisfied = λ n lt.
         let row = stands_there n (omega (arith, lt, as_many)) in
-        let is = kept_there P kept are n row.0 row.1 row.2 in
+        let is = kept_there P wait_states are n row.0 row.1 row.2 in
         (λ on. satisfied_node (is.0.0 on) n row.1 row.2, λ s. is.0.1 (node_satisfied s row.0 row.1 row.2));
     counts = λ n lt.
         let row = stands_there n (omega (arith, lt, as_many)) in
-        one_count _ _ _ (kept_there P kept are n row.0 row.1 row.2).1 (waits_for kept (λ i o op at. (kept_there P kept are i o op at).0) n row.0 row.1 row.2);
+        one_count _ _ _ (kept_there P wait_states are n row.0 row.1 row.2).1 (waits_for wait_states (λ i o op at. (kept_there P wait_states are i o op at).0) n row.0 row.1 row.2);
   }
 
-  pub kept_from_right : (kept : List Kept) → AreRight g (rules_of P) kept → AreKept P kept
-  kept_from_right kept right = record {
+  pub kept_from_right : (wait_states : List WaitState) → AreRight g (rules_of P) wait_states → AreWaitStates P wait_states
+  kept_from_right wait_states right = record {
     size = right.size ∙ as_many;
     each = λ i o op k at is.
-        subst (IsKept P o) (get_or_from_slice_get kept i k nothing_kept is)
-        (flags i o op at, subst (IsWaitingFor P o) (sym (right.counts i (is_node i o op at))) (waits_for kept flags i o op at));
+        subst (IsKept P o) (get_or_from_slice_get wait_states i k no_wait_state is)
+        (flags i o op at, subst (IsWaitingFor P o) (sym (right.counts i (is_node i o op at))) (waits_for wait_states flags i o op at));
   }
     where
-      flags : (i : ℕ) (o : OpKey) (op : Operation) → StandsAt P i o op → (is_satisfied_at kept i ≡ true) ↔ IsSatisfied P o
+      flags : (i : ℕ) (o : OpKey) (op : Operation) → StandsAt P i o op → (is_satisfied_at wait_states i ≡ true) ↔ IsSatisfied P o
       flags i o op at =
           let is = right.satisfied i (is_node i o op at) in
           (λ on. node_satisfied (is.0 on) o op at, λ s. is.1 (satisfied_node s i op at))
 
-  pub kept_on_ok : {T E : Type 0} (r : Result T E) (kept : List Kept) → OnOk r (AreRight g (rules_of P) kept) → OnOk r (AreKept P kept)
-  kept_on_ok (Ok x) kept right = kept_from_right kept right
-  kept_on_ok (Err e) kept right = tt
+  pub kept_on_ok : {T E : Type 0} (r : Result T E) (wait_states : List WaitState) → OnOk r (AreRight g (rules_of P) wait_states) → OnOk r (AreWaitStates P wait_states)
+  kept_on_ok (Ok x) wait_states right = kept_from_right wait_states right
+  kept_on_ok (Err e) wait_states right = tt

@@ -11,8 +11,8 @@ use Rattle.plan_basics.specs.Keys.{Name, name_cmp}
 use Rattle.plan_basics.specs.declared.keys.OpKey.{OpKey}
 use Rattle.workstations.specs.Timetables.{NamedWorkstation}
 use Rattle.workstations.specs.Workstations.{Workstation}
-use Rattle.start_choice.specs.satisfaction.specs.declared.kept.Kept.{Kept}
-use Rattle.start_choice.specs.satisfaction.specs.declared.kept.Rule.{Rule}
+use Rattle.start_choice.specs.satisfaction.specs.declared.nodes.WaitState.{WaitState}
+use Rattle.start_choice.specs.satisfaction.specs.declared.nodes.Rule.{Rule}
 use Rattle.start_choice.specs.satisfaction.specs.Changes.{IsRerun, IsUpward}
 use Rattle.start_choice.specs.satisfaction.specs.Counters.{AreRight, no_rule, rule_at}
 use Rattle.plan_model.specs.Contents.{Contents, Operation, Pairs, attribute_at}
@@ -22,7 +22,7 @@ use Rattle.start_choice.specs.plan_status.proofs.RowKeys.{key_of_row, row_of_key
 use Rattle.derived_figures.proofs.Right.{as_many, kept_there, right_from_kept, stands_there}
 use Rattle.start_choice.specs.counted_records.proofs.RowRules.{is_given, rule_there, rules_size}
 use Rattle.derived_figures.specs.WaitingChanges.{IsRisen, IsTakenBack}
-use Rattle.derived_figures.specs.Kept.{AreKept}
+use Rattle.derived_figures.specs.WaitStates.{AreWaitStates}
 use Rattle.start_choice.specs.counted_records.specs.Rules.{rule_in, rule_on, rules_of}
 
 -- lists with the same element at each index are the same
@@ -83,16 +83,16 @@ module _ (P Q : Contents) (places : List ℕ) (moved : IsMovedAt P Q places) whe
   same_size : length (rules_of Q) ≡ length (rules_of P)
   same_size = rules_size Q ∙ moved.size ∙ sym (rules_size P)
 
-module _ (P Q : Contents) (g : Digraph) (graph : IsGraphFor Q g) (kept : List Kept) (places : List ℕ) where
-  right_before : IsMovedAt P Q places → AreKept P kept → AreRight g (rules_of P) kept
-  right_before moved right = right_from_kept P g (graph_before P Q places moved g graph) kept right
+module _ (P Q : Contents) (g : Digraph) (graph : IsGraphFor Q g) (wait_states : List WaitState) (places : List ℕ) where
+  right_before : IsMovedAt P Q places → AreWaitStates P wait_states → AreRight g (rules_of P) wait_states
+  right_before moved right = right_from_kept P g (graph_before P Q places moved g graph) wait_states right
 
   -- the places of what is kept are nodes
-  nodes_at : IsMovedAt P Q places → length kept ≡ length (entries P.operations) → All (λ i. i < length kept) places → All (λ n. n < g.nodes) places
+  nodes_at : IsMovedAt P Q places → length wait_states ≡ length (entries P.operations) → All (λ i. i < length wait_states) places → All (λ n. n < g.nodes) places
   nodes_at moved size within i d lt = let h = within i d lt in omega (arith, h, size, as_many P g (graph_before P Q places moved g graph))
 
   -- what is kept is right by the rules before, which became those that are
-  pub upward : IsRisen P Q kept places → (before : List Rule) × AreRight g before kept × IsUpward g before kept places (rules_of Q)
+  pub upward : IsRisen P Q wait_states places → (before : List Rule) × AreRight g before wait_states × IsUpward g before wait_states places (rules_of Q)
   upward risen = (
     rules_of P,
     right_before risen.moved risen.right,
@@ -101,17 +101,17 @@ module _ (P Q : Contents) (g : Digraph) (graph : IsGraphFor Q g) (kept : List Ke
       nodes = nodes_at risen.moved risen.right.size risen.within;
       others = same_rule P Q places risen.moved;
       given = λ n has on.
-          let lt = All-contains (λ i. i < length kept) places n risen.within has in
+          let lt = All-contains (λ i. i < length wait_states) places n risen.within has in
           elim (risen.unsatisfied n has) [
             | inl never ↦
                 let row = stands_there P g (graph_before P Q places risen.moved g graph) n (omega (arith, lt, risen.right.size)) in
-                absurd (never (row.0, row.1, row.2, (kept_there P kept risen.right n row.0 row.1 row.2).0.0 on))
+                absurd (never (row.0, row.1, row.2, (kept_there P wait_states risen.right n row.0 row.1 row.2).0.0 on))
             | inr dead ↦ is_given Q n dead.0 dead.1 dead.2 (inr dead.3)
           ];
     },
   )
 
-  pub taken_back : IsTakenBack P Q g kept places → (before : List Rule) × AreRight g before kept × IsRerun g before places (rules_of Q)
+  pub taken_back : IsTakenBack P Q g wait_states places → (before : List Rule) × AreRight g before wait_states × IsRerun g before places (rules_of Q)
   taken_back back = (
     rules_of P,
     right_before back.moved back.right,

@@ -8,11 +8,11 @@ use Rattle.start_choice.specs.plan_drafts.specs.PlanGraphs.{IsGraphFor}
 use Rattle.plan_model.specs.Contents.{Contents}
 use Rattle.derived_figures.specs.declared.figures.Figures.{Figures}
 use Rattle.start_choice.specs.plan_status.specs.Standings.{AreStandings, AreTallies}
-use Rattle.derived_figures.specs.Kept.{AreKept}
+use Rattle.derived_figures.specs.WaitStates.{AreWaitStates}
 
 -- they are this plan's: each is what the plan's own definition of it says, and the ready list has room for an entry of each operation
 pub record AreFigures (P : Contents) (f : Figures) : Type 0 where
-  pub kept : AreKept P f.kept.items
+  pub wait_states : AreWaitStates P f.wait_states.items
   pub standings : AreStandings P f.standings.items
   pub statuses : AreStatuses P f.statuses.items
   pub tallies : AreTallies P f.tallies.items

@@ -4,11 +4,11 @@ use Rattle.std.specs.FinMap.{get}
 use Rattle.plan_basics.specs.declared.keys.OpKey.{OpKey}
 use Rattle.plan_model.specs.Contents.{Contents, HasAttribute, IsInPlan}
 use Rattle.plan_model.specs.Status.{HasStatus}
-use Rattle.derived_figures.specs.declared.frame.Reported.{Reported}
+use Rattle.derived_figures.specs.declared.outlines.ReportedOperation.{ReportedOperation}
 use Rattle.status_rules.specs.declared.Status.{Status}
 
 -- o is this operation of the plan, on a workstation of this attribute, and has this status alone
-pub record IsReported (P : Contents) (o : OpKey) (x : Reported) : Type 0 where
+pub record IsReported (P : Contents) (o : OpKey) (x : ReportedOperation) : Type 0 where
   pub operation : get P.operations o ≡ Some x.operation.now
   pub attribute : HasAttribute P x.operation.now.workstation x.attribute
   pub status : HasStatus P o x.status

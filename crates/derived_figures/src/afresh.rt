@@ -2,59 +2,59 @@
 ghost use Rattle.std.specs.Prelude.{◌≡◌, ◌+◌, ◌*◌, ◌≤◌, IfOk, IfErr, length};
 ghost use Rattle.std.specs.FinMap.{entries};
 ghost use Rattle.plan_basics.specs.declared.Refusal.{Refusal};
-ghost use Rattle.derived_figures.specs.Afresh.{IsWorkedOut};
+ghost use Rattle.derived_figures.specs.Afresh.{IsDerivedAfresh};
 ghost use Rattle.start_choice.specs.Choices.{AreLatestStarts};
 ghost use Rattle.start_choice.specs.plan_drafts.specs.PlanGraphs.{IsGraphFor};
 ghost use Rattle.derived_figures.specs.Figures.{AreFigures};
-ghost use Rattle.start_choice.specs.plan_status.specs.Briefs.{AreBriefs};
+ghost use Rattle.start_choice.specs.plan_status.specs.Summaries.{AreSummaries};
 
 use super::figures::Figures;
-use super::keeping::kept_of;
+use super::wait_states::wait_states_of;
 use plan_basics::Refusal;
 use plan_model::{Graph, Latest};
 use start_choice::{
-    Brief, Shown, given_out_of, holdings_of, latest_of, ready_of, standings_of, statuses_of,
-    tallies_of,
+    CountedRecords, OperationSummary, given_out_of, holdings_of, latest_of, ready_of, standings_of,
+    statuses_of, tallies_of,
 };
 use std::alloc::Global;
 
-/// What is kept of a plan beside what it holds and the graph of that, and the briefs that it was worked out from.
+/// What is kept of a plan beside what it holds and the graph of that, and the summaries that it was worked out from.
 #[derive(Drop)]
-pub struct WorkedOut {
-    pub briefs: Vec<Brief>,
+pub struct DerivedAfresh {
+    pub summaries: Vec<OperationSummary>,
     pub latest: Latest,
     pub figures: Figures,
 }
 
-// The figures of what is shown, by the briefs of its operations: a look at each that may hold special resources, and so at none that is
+// The figures of what is shown, by the summaries of its operations: a look at each that may hold special resources, and so at none that is
 // ready. The error is always `Memory`.
 fn figures_of(
     alloc: Global,
-    shown: &mut Shown,
+    shown: &mut CountedRecords,
     graph: &Graph,
     latest: &Latest,
-    briefs: &[Brief],
+    summaries: &[OperationSummary],
 ) -> Result<Figures, Refusal>
     requires graph { IsGraphFor shown.old.contents graph.now }
     requires latest { AreLatestStarts shown.old.contents latest.now.starts }
-    requires briefs { AreBriefs shown.old.contents briefs.now }
+    requires summaries { AreSummaries shown.old.contents summaries.now }
     ensures figures { IfOk result (AreFigures shown.old.contents) }
     ensures contents { shown.new.contents ≡ shown.old.contents }
     ensures fewest { shown.old.looks ≤ shown.new.looks }
-    ensures most { IfOk result (λ f. shown.new.looks + length f.ready.entries ≤ shown.old.looks + length briefs.now) }
+    ensures most { IfOk result (λ f. shown.new.looks + length f.ready.entries ≤ shown.old.looks + length summaries.now) }
     ensures refused { IfErr result (λ r. r ≡ Refusal.Memory) }
 {
-    let beside = shown.beside();
-    let standings = standings_of(alloc, briefs, graph)?;
-    let statuses = statuses_of(alloc, briefs, &standings)?;
-    let kept = kept_of(alloc, &standings, &statuses)?;
-    let tallies = tallies_of(alloc, &beside, &statuses)?;
-    let mut ready = ready_of(alloc, &beside, briefs, &statuses, latest)?;
-    ready.reserve(briefs.len())?;
-    let given = given_out_of(alloc, &beside, briefs)?;
-    let holdings = holdings_of(alloc, shown, briefs)?;
+    let uncounted = shown.uncounted();
+    let standings = standings_of(alloc, summaries, graph)?;
+    let statuses = statuses_of(alloc, summaries, &standings)?;
+    let wait_states = wait_states_of(alloc, &standings, &statuses)?;
+    let tallies = tallies_of(alloc, &uncounted, &statuses)?;
+    let mut ready = ready_of(alloc, &uncounted, summaries, &statuses, latest)?;
+    ready.reserve(summaries.len())?;
+    let given = given_out_of(alloc, &uncounted, summaries)?;
+    let holdings = holdings_of(alloc, shown, summaries)?;
     Ok(Figures {
-        kept,
+        wait_states,
         standings,
         statuses,
         tallies,
@@ -64,22 +64,26 @@ fn figures_of(
     })
 }
 
-/// What is kept of what is shown, which has this graph, all worked out afresh. It takes a look at each operation for its brief, and so
+/// What is kept of what is shown, which has this graph, all worked out afresh. It takes a look at each operation for its summary, and so
 /// many more that with a look at each entry of the ready list there would be two at each operation at most. The error is always `Memory`.
-pub fn worked_out(alloc: Global, shown: &mut Shown, graph: &Graph) -> Result<WorkedOut, Refusal>
+pub fn derived_afresh(
+    alloc: Global,
+    shown: &mut CountedRecords,
+    graph: &Graph,
+) -> Result<DerivedAfresh, Refusal>
     requires graph { IsGraphFor shown.old.contents graph.now }
-    ensures worked_out { IfOk result (IsWorkedOut shown.old.contents) }
+    ensures derived_afresh { IfOk result (IsDerivedAfresh shown.old.contents) }
     ensures contents { shown.new.contents ≡ shown.old.contents }
     ensures fewest { shown.old.looks ≤ shown.new.looks }
     ensures most { IfOk result (λ w. shown.new.looks + length w.figures.ready.entries ≤ shown.old.looks + 2 * length (entries shown.old.contents.operations)) }
     ensures refused { IfErr result (λ r. r ≡ Refusal.Memory) }
 {
-    shown.beside().are_sound();
-    let briefs = shown.briefs_of(alloc)?;
-    let latest = latest_of(alloc, &briefs, graph)?;
-    let figures = figures_of(alloc, shown, graph, &latest, &briefs)?;
-    Ok(WorkedOut {
-        briefs,
+    shown.uncounted().are_sound();
+    let summaries = shown.summaries_of(alloc)?;
+    let latest = latest_of(alloc, &summaries, graph)?;
+    let figures = figures_of(alloc, shown, graph, &latest, &summaries)?;
+    Ok(DerivedAfresh {
+        summaries,
         latest,
         figures,
     })

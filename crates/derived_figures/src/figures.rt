@@ -1,7 +1,7 @@
 // What is kept of a plan, and moves as marks and flags change.
 use ready_list::ReadyList;
 use special_resources::Holdings;
-use start_choice::{Kept, Standing};
+use start_choice::{Standing, WaitState};
 use status_rules::{Counts, Status};
 use workstations::Capacity;
 
@@ -10,7 +10,7 @@ use workstations::Capacity;
 #[derive(Drop)]
 pub struct Figures {
     /// Of each operation, whether it is satisfied, and how many predecessors it waits for.
-    pub kept: Vec<Kept>,
+    pub wait_states: Vec<WaitState>,
     /// Of each operation, what is known of its predecessors.
     pub standings: Vec<Standing>,
     /// The status of each operation.

@@ -4,37 +4,38 @@
 #![tactic(auto)]
 
 mod afresh;
+mod entries;
 mod figures;
-mod frame;
 mod given;
 mod held;
-mod keeping;
 mod laws;
 mod loaded;
-mod noting;
-mod relisting;
-mod restanding;
-mod restating;
-mod retallying;
+mod outlines;
+mod ready_changes;
+mod standing_changes;
+mod status_changes;
 mod statuses;
 mod takings;
+mod tally_changes;
+mod wait_states;
 mod waiting;
 
-pub use afresh::{WorkedOut, worked_out};
+pub use afresh::{DerivedAfresh, derived_afresh};
+pub use entries::{entries_at, entries_by_summaries};
 pub use figures::Figures;
-pub use frame::{Frame, Outline, Reported};
-pub use keeping::kept_of;
 pub use laws::naming_keeps_kept;
-pub use loaded::{LoadedPlan, Parts};
-pub use noting::{entries_at, entries_briefed};
-pub use relisting::relist_all;
-pub use restanding::restand;
-pub use restating::{Restating, restate, restate_all};
+pub use loaded::{LoadedParts, LoadedPlan};
+pub use outlines::{DerivedRefs, Outline, ReportedOperation};
+pub use ready_changes::relist_all;
+pub use standing_changes::update_standings;
 pub use start_choice::{
-    Beside, Brief, Choice, RecordCopy, Seen, Shown, SoundContents, Standing, ValidContents,
-    attribute_of, briefs_of, check_start, chosen_with, given_out_of, graph_for, holdings_in,
-    is_one_of, mark_all, occurrence_status_with, set_held, set_nop, standings_of,
+    Choice, CountedRecords, OperationSummary, RecordCopy, SeenOperation, SoundContents, Standing,
+    UncountedContents, ValidContents, attribute_of, check_start, chosen_with, given_out_of,
+    graph_for, holdings_in, is_one_of, mark_all, occurrence_status_with, set_held, set_nop,
+    standings_of, summaries_of,
 };
+pub use status_changes::{StatusBasis, set_statuses, update_statuses};
 pub use statuses::{Statuses, statuses_shown};
 pub use takings::retake;
+pub use wait_states::wait_states_of;
 pub use waiting::{satisfy, unsatisfy};

@@ -8,22 +8,22 @@ ghost use Rattle.start_choice.specs.plan_drafts.specs.PlanGraphs.{IsGraphFor};
 ghost use Rattle.plan_model.specs.Contents.{Operation};
 ghost use Rattle.plan_model.specs.Status.{HasStatus};
 ghost use Rattle.derived_figures.specs.Figures.{AreFigures};
-ghost use Rattle.derived_figures.specs.Frames.{IsFrameOf};
+ghost use Rattle.derived_figures.specs.DerivedRefs.{AreDerivedOf};
 ghost use Rattle.derived_figures.specs.Reports.{IsReported};
 ghost use Rattle.start_choice.specs.plan_status.specs.Standings.{AreStandings, AreTallies};
 
 use super::figures::Figures;
-use super::frame::{Frame, Outline, Reported};
+use super::outlines::{DerivedRefs, Outline, ReportedOperation};
 use plan_basics::OpKey;
 use plan_model::{Graph, Latest};
 use ready_list::ReadyList;
-use start_choice::{Beside, SoundContents, Standing};
+use start_choice::{SoundContents, Standing, UncountedContents};
 use status_rules::{Counts, Status};
 use std::marker::Model;
 
 /// A loaded plan, taken apart: what it holds, the graph of its pairs, the latest start of each operation, and the figures.
 #[derive(Drop)]
-pub struct Parts {
+pub struct LoadedParts {
     pub contents: SoundContents,
     pub graph: Graph,
     pub latest: Latest,
@@ -72,13 +72,13 @@ impl LoadedPlan {
     }
 
     /// What it is made of, so that it can be written to.
-    pub fn into_parts(self) -> Parts
+    pub fn into_parts(self) -> LoadedParts
         ensures contents { result.contents ≡ self }
         ensures graph { IsGraphFor self result.graph }
         ensures latest { AreLatestStarts self result.latest.starts }
         ensures figures { AreFigures self result.figures }
     {
-        Parts {
+        LoadedParts {
             contents: self.contents,
             graph: self.graph,
             latest: self.latest,
@@ -94,10 +94,10 @@ impl LoadedPlan {
     }
 
     /// What is kept of it beside what it holds.
-    pub fn frame(&self) -> Frame<'_>
-        ensures { IsFrameOf self.now result }
+    pub fn derived(&self) -> DerivedRefs<'_>
+        ensures { AreDerivedOf self.now result }
     {
-        Frame {
+        DerivedRefs {
             graph: &self.graph,
             latest: &self.latest,
             figures: &self.figures,
@@ -108,7 +108,7 @@ impl LoadedPlan {
     pub fn outline(&self) -> Outline<'_>
         ensures { result ≡ self.now }
     {
-        Outline::of(Beside::of(self.contents()), self.frame())
+        Outline::of(UncountedContents::of(self.contents()), self.derived())
     }
 
     /// The graph of its operations and pairs: a node is the index of an operation.
@@ -162,7 +162,7 @@ impl LoadedPlan {
     }
 
     /// The operation at an index, with what is read off the plan for it.
-    pub fn reported_at(&self, place: usize) -> Reported<'_>
+    pub fn reported_at(&self, place: usize) -> ReportedOperation<'_>
         requires { place < length (entries self.now.operations) }
         ensures { (o : OpKeyValue) → (op : Operation) → slice_get (entries self.now.operations) place ≡ Some (o, op) → IsReported self.now o result }
     {

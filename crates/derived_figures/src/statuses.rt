@@ -11,7 +11,7 @@ ghost use Rattle.derived_figures.specs.Reports.{IsOfStatus};
 
 use plan_basics::{OpKey, Refusal};
 use plan_model::Graph;
-use start_choice::{Beside, Shown, standings_of, statuses_of};
+use start_choice::{CountedRecords, UncountedContents, standings_of, statuses_of};
 use status_rules::Status;
 use std::alloc::Global;
 use std::marker::Model;
@@ -20,7 +20,7 @@ use std::marker::Model;
 /// holds.
 #[derive(Drop)]
 pub struct Statuses<'a> {
-    beside: Beside<'a>,
+    uncounted: UncountedContents<'a>,
     statuses: &'a [Status],
 }
 
@@ -33,27 +33,30 @@ impl<'a> Model for Statuses<'a> {
 
     ghost coded = { contents_code };
 
-    ghost view = { λ p. p.beside.contents.now };
+    ghost view = { λ p. p.uncounted.contents.now };
 
-    ghost invariant = { λ p. AreStatuses p.beside.contents.now p.statuses.now };
+    ghost invariant = { λ p. AreStatuses p.uncounted.contents.now p.statuses.now };
 }
 
 impl<'a> Statuses<'a> {
     /// The statuses of the plan beside whose records this stands, in key order.
-    pub fn of(beside: Beside<'a>, statuses: &'a [Status]) -> Statuses<'a>
-        requires { AreStatuses beside.contents.now statuses.now }
-        ensures { result ≡ beside.entry.contents.now }
+    pub fn of(uncounted: UncountedContents<'a>, statuses: &'a [Status]) -> Statuses<'a>
+        requires { AreStatuses uncounted.contents.now statuses.now }
+        ensures { result ≡ uncounted.entry.contents.now }
     {
-        Statuses { beside, statuses }
+        Statuses {
+            uncounted,
+            statuses,
+        }
     }
 
     /// What stands beside its records.
-    pub fn beside(&self) -> Beside<'a>
+    pub fn uncounted(&self) -> UncountedContents<'a>
         ensures contents { result.contents.now ≡ self.now }
         ensures sound { IsSound self.now }
     {
-        self.beside.are_sound();
-        self.beside
+        self.uncounted.are_sound();
+        self.uncounted
     }
 
     /// The index of the operation of a key, if there is one.
@@ -61,7 +64,7 @@ impl<'a> Statuses<'a> {
         ensures found { IfSome result (λ i. (op : Operation) × (slice_get (entries self.now.operations) i ≡ Some (key.now, op))) }
         ensures absent { IsNone result → get self.now.operations key.now ≡ None }
     {
-        self.beside.operation_place(key)
+        self.uncounted.operation_place(key)
     }
 
     /// The status of the operation at an index.
@@ -69,7 +72,7 @@ impl<'a> Statuses<'a> {
         requires { place < length (entries self.now.operations) }
         ensures { (o : OpKeyValue) → (op : Operation) → slice_get (entries self.now.operations) place ≡ Some (o, op) → IsOfStatus self.now o result }
     {
-        self.beside.are_sound();
+        self.uncounted.are_sound();
         self.statuses[place]
     }
 
@@ -88,7 +91,7 @@ impl<'a> Statuses<'a> {
 /// The status of each operation of what is shown, which has this graph, in key order: by a look at each. The error is always `Memory`.
 pub fn statuses_shown(
     alloc: Global,
-    shown: &mut Shown,
+    shown: &mut CountedRecords,
     graph: &Graph,
 ) -> Result<Vec<Status>, Refusal>
     requires { IsGraphFor shown.old.contents graph.now }
@@ -97,8 +100,8 @@ pub fn statuses_shown(
     ensures most { shown.new.looks ≤ shown.old.looks + len shown.old.contents.operations }
     ensures refused { IfErr result (λ r. r ≡ Refusal.Memory) }
 {
-    shown.beside().are_sound();
-    let briefs = shown.briefs_of(alloc)?;
-    let standings = standings_of(alloc, &briefs, graph)?;
-    Ok(statuses_of(alloc, &briefs, &standings)?)
+    shown.uncounted().are_sound();
+    let summaries = shown.summaries_of(alloc)?;
+    let standings = standings_of(alloc, &summaries, graph)?;
+    Ok(statuses_of(alloc, &summaries, &standings)?)
 }

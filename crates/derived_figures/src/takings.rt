@@ -14,12 +14,12 @@ use super::held::retake_needs;
 use plan_basics::Refusal;
 use plan_model::Marking;
 use special_resources::Holdings;
-use start_choice::{Seen, Shown};
+use start_choice::{CountedRecords, SeenOperation};
 use workstations::Capacity;
 
 // Moves what is given out and held, where the operation at this place had this marking before.
 fn retake_at(
-    shown: &mut Shown,
+    shown: &mut CountedRecords,
     given: &mut [Capacity],
     holdings: &mut Holdings,
     place: usize,
@@ -34,16 +34,16 @@ fn retake_at(
     ensures most { shown.new.looks ≤ shown.old.looks + 1 }
     ensures refused { IfErr result (λ r. r ≡ Refusal.Memory) }
 {
-    let Seen {
+    let SeenOperation {
         key,
         operation,
-        beside,
+        uncounted,
     } = shown.see(place);
-    if !beside.starts_are_known(operation, place) {
+    if !uncounted.starts_are_known(operation, place) {
         return Ok(());
     }
     let old = marking.put_on(operation);
-    let station = beside.workstation_place_near(operation, place);
+    let station = uncounted.workstation_place_near(operation, place);
     given[station] = given_anew(&given[station], &old, operation);
     retake_needs(holdings, key, operation)
 }
@@ -52,7 +52,7 @@ fn retake_at(
 /// order, had these markings before, one for each place. It takes a look at each place at most. The error is always `Memory`: then
 /// both may be moved in part.
 pub fn retake(
-    shown: &mut Shown,
+    shown: &mut CountedRecords,
     given: &mut [Capacity],
     holdings: &mut Holdings,
     places: &[usize],

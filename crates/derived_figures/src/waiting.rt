@@ -6,10 +6,10 @@ ghost use Rattle.start_choice.specs.satisfaction.specs.Journal.{IsJournaled};
 ghost use Rattle.plan_model.specs.Contents.{Contents};
 ghost use Rattle.start_choice.specs.plan_drafts.specs.PlanGraphs.{IsGraphFor};
 ghost use Rattle.derived_figures.specs.WaitingChanges.{IsRisen, IsTakenBack};
-ghost use Rattle.derived_figures.specs.Kept.{AreKept};
+ghost use Rattle.derived_figures.specs.WaitStates.{AreWaitStates};
 
 use plan_model::Graph;
-use start_choice::{Kept, Shown, rerun, settle_up};
+use start_choice::{CountedRecords, WaitState, rerun, settle_up};
 use std::alloc::{AllocError, Global};
 
 /// After a change of marks and flags at these places, of which none was satisfied, as where one is completed, released or made a
@@ -20,21 +20,21 @@ use std::alloc::{AllocError, Global};
 pub fn satisfy(
     alloc: Global,
     graph: &Graph,
-    shown: &mut Shown,
-    kept: &mut [Kept],
-    journal: &mut Vec<(usize, Kept)>,
+    shown: &mut CountedRecords,
+    wait_states: &mut [WaitState],
+    journal: &mut Vec<(usize, WaitState)>,
     places: &[usize],
 ) -> Result<(), AllocError>
     requires graph { IsGraphFor shown.old.contents graph.now }
-    requires moved { (before : Contents) × IsRisen before shown.old.contents kept.old places.now }
-    ensures kept { OnOk result (AreKept shown.old.contents kept.new) }
+    requires moved { (before : Contents) × IsRisen before shown.old.contents wait_states.old places.now }
+    ensures wait_states { OnOk result (AreWaitStates shown.old.contents wait_states.new) }
     ensures contents { shown.new.contents ≡ shown.old.contents }
     ensures fewest { shown.old.looks ≤ shown.new.looks }
-    ensures most { OnOk result (shown.new.looks + waiting_count kept.new ≤ shown.old.looks + length places.now + waiting_count kept.old) }
-    ensures places { OnOk result (IsLowering places.now kept.old journal.old.items kept.new journal.new.items) }
-    ensures journaled { IsJournaled kept.old journal.old.items kept.new journal.new.items }
+    ensures most { OnOk result (shown.new.looks + waiting_count wait_states.new ≤ shown.old.looks + length places.now + waiting_count wait_states.old) }
+    ensures places { OnOk result (IsLowering places.now wait_states.old journal.old.items wait_states.new journal.new.items) }
+    ensures journaled { IsJournaled wait_states.old journal.old.items wait_states.new journal.new.items }
 {
-    settle_up(alloc, graph, shown, kept, journal, places)
+    settle_up(alloc, graph, shown, wait_states, journal, places)
 }
 
 /// After a rerun at these places, which are all that it reaches: what was right before is right for the plan as it is now.
@@ -45,19 +45,19 @@ pub fn satisfy(
 pub fn unsatisfy(
     alloc: Global,
     graph: &Graph,
-    shown: &mut Shown,
-    kept: &mut [Kept],
-    journal: &mut Vec<(usize, Kept)>,
+    shown: &mut CountedRecords,
+    wait_states: &mut [WaitState],
+    journal: &mut Vec<(usize, WaitState)>,
     places: &[usize],
 ) -> Result<(), AllocError>
     requires graph { IsGraphFor shown.old.contents graph.now }
-    requires moved { (before : Contents) × IsTakenBack before shown.old.contents graph.now kept.old places.now }
-    ensures kept { OnOk result (AreKept shown.old.contents kept.new) }
+    requires moved { (before : Contents) × IsTakenBack before shown.old.contents graph.now wait_states.old places.now }
+    ensures wait_states { OnOk result (AreWaitStates shown.old.contents wait_states.new) }
     ensures contents { shown.new.contents ≡ shown.old.contents }
     ensures fewest { shown.old.looks ≤ shown.new.looks }
-    ensures most { OnOk result ((followers : List ℕ) → HoldFollowers graph.now places.now followers → shown.new.looks + waiting_count kept.new ≤ shown.old.looks + length places.now + length followers + waiting_count kept.old) }
-    ensures places { OnOk result (AreAround graph.now places.now kept.old journal.old.items kept.new journal.new.items) }
-    ensures journaled { IsJournaled kept.old journal.old.items kept.new journal.new.items }
+    ensures most { OnOk result ((followers : List ℕ) → HoldFollowers graph.now places.now followers → shown.new.looks + waiting_count wait_states.new ≤ shown.old.looks + length places.now + length followers + waiting_count wait_states.old) }
+    ensures places { OnOk result (AreAround graph.now places.now wait_states.old journal.old.items wait_states.new journal.new.items) }
+    ensures journaled { IsJournaled wait_states.old journal.old.items wait_states.new journal.new.items }
 {
-    rerun(alloc, graph, shown, kept, journal, places)
+    rerun(alloc, graph, shown, wait_states, journal, places)
 }

@@ -7,7 +7,7 @@ use plan_basics::{Moment, OpKey, Refusal, Watched};
 use plan_reports::{ReportFault, why_report};
 use sqlite::Alter;
 use std::alloc::Global;
-use taken_memory::{Outcome, SPARES, swept};
+use taken_memory::{MemoryOutcome, SPARES, swept};
 use wires::{NIGHT, is_written};
 
 // Why the bills don't go on after the failed run.
@@ -17,18 +17,18 @@ END 1
 ";
 
 // What comes of a report that is to be this text.
-fn outcome(reported: Result<(), ReportFault>, room: &[u8], text: &str) -> Outcome {
+fn outcome(reported: Result<(), ReportFault>, room: &[u8], text: &str) -> MemoryOutcome {
     match reported {
-        Ok(()) if is_written(room, text) => Outcome::Done,
+        Ok(()) if is_written(room, text) => MemoryOutcome::Done,
         Err(ReportFault::Refused(Refusal::Memory)) if is_written(room, "") => {
-            Outcome::WithoutMemory
+            MemoryOutcome::WithoutMemory
         }
-        _ => Outcome::Otherwise,
+        _ => MemoryOutcome::Otherwise,
     }
 }
 
 // What comes of a sample's report.
-fn reporting<S: Alter + Drop>(alloc: Global, bench: &Bench<S>, sample: &Sample) -> Outcome {
+fn reporting<S: Alter + Drop>(alloc: Global, bench: &Bench<S>, sample: &Sample) -> MemoryOutcome {
     let mut room = [0; 512];
     let mut writer = Watched::new(&mut room[..]);
     let reported = write_report(alloc, bench, sample.report, &mut writer);
@@ -64,7 +64,12 @@ pub fn reports_in_want_of_memory(alloc: Global) -> Result<(), &'static str> {
 }
 
 // What comes of telling why the bills don't go on.
-fn telling<S: Alter + Drop>(alloc: Global, bench: &Bench<S>, bills: &OpKey, at: Moment) -> Outcome {
+fn telling<S: Alter + Drop>(
+    alloc: Global,
+    bench: &Bench<S>,
+    bills: &OpKey,
+    at: Moment,
+) -> MemoryOutcome {
     let mut room = [0; 512];
     let mut writer = Watched::new(&mut room[..]);
     let reported = why_report(alloc, &bench.held, bills, at, &mut writer);

@@ -9,8 +9,8 @@ use Rattle.plan_records.specs.Rows.{AreChanges}
 use Rattle.plan_records.specs.Step.{Numbered, Receipt, Receipts, StepsAnew}
 use Rattle.tracker_receipts.specs.Stored.{columns_of}
 use Rattle.desk_tables.specs.declared.numbering.steps.NumberedStep.{NumberedStep}
-use Rattle.desk_tables.specs.declared.numbering.steps.Outcome.{Outcome}
-use Rattle.desk_tables.specs.declared.numbering.steps.Outcome.TheVariants.{Again, New}
+use Rattle.desk_tables.specs.declared.numbering.steps.NumberedOutcome.{NumberedOutcome}
+use Rattle.desk_tables.specs.declared.numbering.steps.NumberedOutcome.TheVariants.{Again, New}
 
 -- the receipt of a request that names these keys
 abbrev pub receipt_of : Numbered → List OpKey → Receipt
@@ -27,11 +27,11 @@ pub record IsNumberedStepFor (s : PlanState) (T : Receipts) (n : Numbered) (p : 
   pub row : p.row ≡ columns_of n.tracker p.receipt
 
 -- if it is answered again, this holds of the keys
-abbrev pub IfAgain : (List OpKey → Type 0) → Outcome → Type 0
+abbrev pub IfAgain : (List OpKey → Type 0) → NumberedOutcome → Type 0
 IfAgain holds (Again named) = holds named.items
 IfAgain holds (New step) = Unit {0}
 
 -- if it is new, this holds of its step
-abbrev pub IfNew : (NumberedStep → Type 0) → Outcome → Type 0
+abbrev pub IfNew : (NumberedStep → Type 0) → NumberedOutcome → Type 0
 IfNew holds (Again named) = Unit {0}
 IfNew holds (New step) = holds step

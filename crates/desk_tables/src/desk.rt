@@ -29,7 +29,7 @@ use super::errors::ErrorRows;
 use super::faults::{opening_refusal, request_refusal};
 use super::opening::opened_state;
 use super::writing::write_call;
-use crate::numbering::{Outcome, prepare_numbered};
+use crate::numbering::{NumberedOutcome, prepare_numbered};
 use plan_basics::{Refusal, TrackerName};
 use plan_core::Plan;
 use plan_records::{Reply, Request};
@@ -295,8 +295,8 @@ impl<S: Alter + Drop> Desk<S> {
             text,
             request,
         ) {
-            Ok(Outcome::Again(named)) => Reply::Accepted { named },
-            Ok(Outcome::New(step)) => self.carry_out(PreparedCall::Numbered(step)),
+            Ok(NumberedOutcome::Again(named)) => Reply::Accepted { named },
+            Ok(NumberedOutcome::New(step)) => self.carry_out(PreparedCall::Numbered(step)),
             Err(refusal) => Reply::Refused(refusal),
         }
     }

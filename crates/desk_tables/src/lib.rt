@@ -17,6 +17,6 @@ mod writing;
 
 pub use desk::Desk;
 pub use errors::{ErrorRow, ErrorRows};
-pub use numbering::{NumberedStep, Outcome, prepare_numbered};
+pub use numbering::{NumberedOutcome, NumberedStep, prepare_numbered};
 pub use plan_core::{OccView, Occs, OpView, Ops, Plan, Ready, answer_alone};
 pub use runs::run_all;

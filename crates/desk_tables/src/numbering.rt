@@ -5,4 +5,4 @@ mod preparing;
 mod steps;
 
 pub use preparing::prepare_numbered;
-pub use steps::{NumberedStep, Outcome};
+pub use steps::{NumberedOutcome, NumberedStep};

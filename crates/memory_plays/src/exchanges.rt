@@ -2,7 +2,7 @@
 use plan_basics::Watched;
 use sqlite::Alter;
 use std::alloc::Global;
-use taken_memory::Outcome;
+use taken_memory::MemoryOutcome;
 use tracker_http::{Desk, WireFault, serve_one};
 use wires::{After, Pieces, get, is_written, post, reply};
 
@@ -35,17 +35,17 @@ impl Exchange {
     }
 
     // What comes of it where it ends so, and this is written.
-    fn outcome(&self, ended: Result<(), WireFault>, room: &[u8]) -> Outcome {
+    fn outcome(&self, ended: Result<(), WireFault>, room: &[u8]) -> MemoryOutcome {
         match ended {
-            Ok(()) if is_written(room, &self.reply) => Outcome::Done,
-            Ok(()) if is_written(room, &self.without_memory) => Outcome::WithoutMemory,
-            Err(WireFault::Memory) if is_written(room, "") => Outcome::WithoutMemory,
-            _ => Outcome::Otherwise,
+            Ok(()) if is_written(room, &self.reply) => MemoryOutcome::Done,
+            Ok(()) if is_written(room, &self.without_memory) => MemoryOutcome::WithoutMemory,
+            Err(WireFault::Memory) if is_written(room, "") => MemoryOutcome::WithoutMemory,
+            _ => MemoryOutcome::Otherwise,
         }
     }
 
     /// What comes of it at a desk. The writer takes no memory.
-    pub fn make<S: Alter + Drop>(&self, alloc: Global, desk: &mut Desk<S>) -> Outcome {
+    pub fn make<S: Alter + Drop>(&self, alloc: Global, desk: &mut Desk<S>) -> MemoryOutcome {
         let mut room = [0; 512];
         let mut reader = Watched::new(pieces(&self.input));
         let mut writer = Watched::new(&mut room[..]);

@@ -6,7 +6,7 @@ use plan_basics::Refusal;
 use plan_records::Request;
 use sqlite::{Alter, Connection};
 use std::alloc::Global;
-use taken_memory::Outcome;
+use taken_memory::MemoryOutcome;
 use tracker_http::Desk;
 use wires::{lacks_all, makes_first_night, tables_text};
 
@@ -18,17 +18,17 @@ pub struct Place<S: Alter + Drop> {
 }
 
 // What a desk makes of an operator's request.
-fn asked<S: Alter + Drop>(desk: &mut Desk<S>, request: &Request, told: &str) -> Outcome {
+fn asked<S: Alter + Drop>(desk: &mut Desk<S>, request: &Request, told: &str) -> MemoryOutcome {
     let reply = desk.call(request);
     outcome(&reply, told)
 }
 
 // Makes the tables of the first version, with a night.
-fn made_first<S: Alter>(conn: &mut Connection<S>) -> Outcome {
+fn made_first<S: Alter>(conn: &mut Connection<S>) -> MemoryOutcome {
     if makes_first_night(conn) {
-        Outcome::Done
+        MemoryOutcome::Done
     } else {
-        Outcome::Otherwise
+        MemoryOutcome::Otherwise
     }
 }
 
@@ -42,82 +42,82 @@ impl<S: Alter + Drop> Place<S> {
     }
 
     // Keeps what a desk's making or opening gives.
-    fn keep(&mut self, opened: Result<Desk<S>, (Refusal, Connection<S>)>) -> Outcome {
+    fn keep(&mut self, opened: Result<Desk<S>, (Refusal, Connection<S>)>) -> MemoryOutcome {
         match opened {
             Ok(desk) => {
                 self.desk = Some(desk);
-                Outcome::Done
+                MemoryOutcome::Done
             }
             Err((refusal, conn)) => {
                 self.conn = Some(conn);
                 if refusal == Refusal::Memory {
-                    Outcome::WithoutMemory
+                    MemoryOutcome::WithoutMemory
                 } else {
-                    Outcome::Otherwise
+                    MemoryOutcome::Otherwise
                 }
             }
         }
     }
 
     // Makes a desk over the connection.
-    fn create(&mut self, alloc: Global) -> Outcome {
+    fn create(&mut self, alloc: Global) -> MemoryOutcome {
         match self.conn.take() {
             Some(conn) => {
                 let created = Desk::create(alloc, conn);
                 self.keep(created)
             }
-            None => Outcome::Otherwise,
+            None => MemoryOutcome::Otherwise,
         }
     }
 
     // Makes the tables of the first version over the connection.
-    fn make_first(&mut self) -> Outcome {
+    fn make_first(&mut self) -> MemoryOutcome {
         match &mut self.conn {
             Some(conn) => made_first(conn),
-            None => Outcome::Otherwise,
+            None => MemoryOutcome::Otherwise,
         }
     }
 
     // Opens the desk over the connection.
-    fn open(&mut self, alloc: Global) -> Outcome {
+    fn open(&mut self, alloc: Global) -> MemoryOutcome {
         match self.conn.take() {
             Some(conn) => {
                 let opened = Desk::open(alloc, conn);
                 self.keep(opened)
             }
-            None => Outcome::Otherwise,
+            None => MemoryOutcome::Otherwise,
         }
     }
 
     // Closes the desk.
-    fn close(&mut self) -> Outcome {
+    fn close(&mut self) -> MemoryOutcome {
         match self.desk.take() {
             Some(desk) => {
                 self.conn = Some(desk.close());
-                Outcome::Done
+                MemoryOutcome::Done
             }
-            None => Outcome::Otherwise,
+            None => MemoryOutcome::Otherwise,
         }
     }
 
     // Asks the desk.
-    fn ask(&mut self, request: &Request, told: &str) -> Outcome {
+    fn ask(&mut self, request: &Request, told: &str) -> MemoryOutcome {
         match &mut self.desk {
             Some(desk) => asked(desk, request, told),
-            None => Outcome::Otherwise,
+            None => MemoryOutcome::Otherwise,
         }
     }
 
     // Makes an exchange with the desk.
-    fn send(&mut self, alloc: Global, exchange: &Exchange) -> Outcome {
+    fn send(&mut self, alloc: Global, exchange: &Exchange) -> MemoryOutcome {
         match &mut self.desk {
             Some(desk) => exchange.make(alloc, desk),
-            None => Outcome::Otherwise,
+            None => MemoryOutcome::Otherwise,
         }
     }
 
     /// What comes of a turn.
-    pub fn make(&mut self, alloc: Global, turn: &Turn<'_>) -> Outcome {
+    pub fn make(&mut self, alloc: Global, turn: &Turn<'_>) -> MemoryOutcome {
         match turn {
             Turn::Create => self.create(alloc),
             Turn::First => self.make_first(),
@@ -154,9 +154,9 @@ impl<S: Alter + Drop> Place<S> {
 
     // What the tables hold: a desk is closed meanwhile.
     fn tables_below(&mut self, alloc: Global) -> Option<Vec<u8>> {
-        let was_open = self.close() == Outcome::Done;
+        let was_open = self.close() == MemoryOutcome::Done;
         let text = self.tables(alloc);
-        if was_open && self.open(alloc) != Outcome::Done {
+        if was_open && self.open(alloc) != MemoryOutcome::Done {
             return None;
         }
         text

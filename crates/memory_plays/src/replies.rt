@@ -1,7 +1,7 @@
 // What is replied, held against what a turn says.
 use plan_basics::{OpKey, Refusal};
 use plan_records::Reply;
-use taken_memory::Outcome;
+use taken_memory::MemoryOutcome;
 
 // Whether these are the operations of a list.
 fn are_keys(named: &[OpKey], keys: &str) -> bool {
@@ -28,11 +28,11 @@ fn is_refused(refusal: Refusal, told: &str) -> bool {
 }
 
 /// What comes of a turn whose reply is this one.
-pub fn outcome(reply: &Reply, told: &str) -> Outcome {
+pub fn outcome(reply: &Reply, told: &str) -> MemoryOutcome {
     match reply {
-        Reply::Refused(Refusal::Memory) => Outcome::WithoutMemory,
-        Reply::Refused(refusal) if is_refused(*refusal, told) => Outcome::Done,
-        Reply::Accepted { named } if are_named(named, told) => Outcome::Done,
-        _ => Outcome::Otherwise,
+        Reply::Refused(Refusal::Memory) => MemoryOutcome::WithoutMemory,
+        Reply::Refused(refusal) if is_refused(*refusal, told) => MemoryOutcome::Done,
+        Reply::Accepted { named } if are_named(named, told) => MemoryOutcome::Done,
+        _ => MemoryOutcome::Otherwise,
     }
 }

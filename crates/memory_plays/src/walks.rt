@@ -3,7 +3,7 @@ use super::places::Place;
 use super::turns::{Turn, turn_of};
 use sqlite::Alter;
 use std::alloc::Global;
-use taken_memory::{Outcome, SPARES, Sweep, swept};
+use taken_memory::{MemoryOutcome, SPARES, Sweep, swept};
 
 // What is shown before a turn, and after it.
 #[derive(Drop)]
@@ -22,7 +22,7 @@ fn changed<S: Alter + Drop>(
     turn: &Turn<'_>,
 ) -> Option<Change> {
     let before = place.shown(alloc)?;
-    if place.make(alloc, turn) != Outcome::Done {
+    if place.make(alloc, turn) != MemoryOutcome::Done {
         return None;
     }
     let after = place.shown(alloc)?;
@@ -62,10 +62,10 @@ fn is_made_in_want<S: Alter + Drop>(
         let sweep = make_in_want(alloc, place, turn, most);
         refused = refused.saturating_add(sweep.refused);
         match sweep.last {
-            Outcome::Done => {
+            MemoryOutcome::Done => {
                 return (refused > 0 || !turn.wants_memory()) && place.shows(alloc, &change.after);
             }
-            Outcome::WithoutMemory if is_left(alloc, place, turn, change) => {}
+            MemoryOutcome::WithoutMemory if is_left(alloc, place, turn, change) => {}
             _ => return false,
         }
     }
@@ -92,7 +92,7 @@ fn is_made_with_memory<S: Alter + Drop>(
     rich: &mut Place<S>,
     turn: &Turn<'_>,
 ) -> bool {
-    poor.make(alloc, turn) == Outcome::Done && rich.make(alloc, turn) == Outcome::Done
+    poor.make(alloc, turn) == MemoryOutcome::Done && rich.make(alloc, turn) == MemoryOutcome::Done
 }
 
 // Whether the turn of a line is made at both places.

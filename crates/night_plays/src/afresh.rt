@@ -2,8 +2,9 @@
 // each request. The rows are kept up to date by what each request changes.
 use super::answers::{answered, is_same_answer};
 use super::kept_rows::update;
-use nights::{Plan, Player, is_like, is_ready_alike};
+use nights::{Player, is_like, is_ready_alike};
 use plan_basics::{Interval, Moment, OpKey, Refusal, WsName};
+use plan_core::Plan;
 use plan_records::{PlanRow, Reply, Request, What};
 use std::alloc::Global;
 

@@ -1,6 +1,6 @@
 // What a plan answers a request, written down, so that the answers of two plans can be compared.
-use nights::{Plan, Prepared};
 use plan_basics::{OpKey, Refusal};
+use plan_core::{Plan, Prepared};
 use plan_drafts::RowKey;
 use plan_records::{PlanRow, Request};
 use std::alloc::{AllocError, Global};

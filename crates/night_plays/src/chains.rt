@@ -1,5 +1,6 @@
 // How many operation records a request looks at, on a plan of 20 chains of 255 operations.
-use nights::{Plan, Prepared, cut, request};
+use nights::{cut, request};
+use plan_core::{Plan, Prepared};
 use plan_records::{PlanRow, Request};
 use std::alloc::Global;
 

@@ -3,11 +3,12 @@
 // was. Of the other it is prepared with memory, and carried out while all is taken.
 use super::memory::applied_without;
 use super::players::{OneByOne, step};
-use nights::{Plan, Player, after, after_lines, cut, is_like, is_told, request};
+use nights::{Player, after, after_lines, cut, is_like, is_told, request};
 use plan_basics::Refusal;
+use plan_core::Plan;
 use plan_records::{Reply, Request};
 use std::alloc::Global;
-use taken_memory::{Outcome, SPARES, swept};
+use taken_memory::{MemoryOutcome, SPARES, swept};
 
 /// Each night has a line with its beginning, and its turns.
 const NIGHTS: &str = "-
@@ -52,19 +53,20 @@ LOADED
 22:20 ended CCC.10 | names -";
 
 // What comes of a turn's reply.
-fn outcome(reply: &Reply, turn: &str) -> Outcome {
+fn outcome(reply: &Reply, turn: &str) -> MemoryOutcome {
     match reply {
-        Reply::Refused(Refusal::Memory) => Outcome::WithoutMemory,
-        _ if is_told(reply, turn) == Some(true) => Outcome::Done,
-        _ => Outcome::Otherwise,
+        Reply::Refused(Refusal::Memory) => MemoryOutcome::WithoutMemory,
+        _ if is_told(reply, turn) == Some(true) => MemoryOutcome::Done,
+        _ => MemoryOutcome::Otherwise,
     }
 }
 
 // What comes of a turn that is asked of a plan. Where it is refused for want of memory, the plan shows what it showed before.
-fn tried(plan: &mut Plan, before: &Plan, request: &Request, turn: &str) -> Outcome {
+fn tried(plan: &mut Plan, before: &Plan, request: &Request, turn: &str) -> MemoryOutcome {
     let reply = step(plan, request);
     match outcome(&reply, turn) {
-        Outcome::WithoutMemory if is_like(plan, before) != Some(true) => Outcome::Otherwise,
+        MemoryOutcome::WithoutMemory if is_like(plan, before) != Some(true) =>
+            MemoryOutcome::Otherwise,
         came => came,
     }
 }
@@ -82,7 +84,7 @@ fn is_told_at_last(
     if turn.contains("| names") {
         sweep.is_done_after(0)
     } else {
-        sweep.last == Outcome::Done
+        sweep.last == MemoryOutcome::Done
     }
 }
 

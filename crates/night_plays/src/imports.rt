@@ -3,29 +3,29 @@ use nights::joined;
 use plan_basics::Watched;
 use plan_import::{ImportFault, read_extension, read_occurrence, read_plan};
 use std::alloc::Global;
-use taken_memory::{Outcome, SPARES, swept};
+use taken_memory::{MemoryOutcome, SPARES, swept};
 
 // What comes of an import that has to denote something.
-fn outcome<T: Drop>(read: Result<Option<T>, ImportFault>) -> Outcome {
+fn outcome<T: Drop>(read: Result<Option<T>, ImportFault>) -> MemoryOutcome {
     match read {
-        Ok(Some(_)) => Outcome::Done,
-        Err(ImportFault::Memory) => Outcome::WithoutMemory,
-        _ => Outcome::Otherwise,
+        Ok(Some(_)) => MemoryOutcome::Done,
+        Err(ImportFault::Memory) => MemoryOutcome::WithoutMemory,
+        _ => MemoryOutcome::Otherwise,
     }
 }
 
 /// What comes of reading the text of a plan.
-pub fn reading_plan(alloc: Global, text: &[u8]) -> Outcome {
+pub fn reading_plan(alloc: Global, text: &[u8]) -> MemoryOutcome {
     outcome(read_plan(alloc, &mut Watched::new(text)))
 }
 
 // What comes of reading the text of an occurrence that is added.
-fn reading_occurrence(alloc: Global, text: &[u8]) -> Outcome {
+fn reading_occurrence(alloc: Global, text: &[u8]) -> MemoryOutcome {
     outcome(read_occurrence(alloc, &mut Watched::new(text)))
 }
 
 // What comes of reading the text by which a plan is extended.
-fn reading_extension(alloc: Global, text: &[u8]) -> Outcome {
+fn reading_extension(alloc: Global, text: &[u8]) -> MemoryOutcome {
     outcome(read_extension(alloc, &mut Watched::new(text)))
 }
 

@@ -1,21 +1,23 @@
 // Want of memory, met on purpose: each call that can want memory, without any. What comes after all memory is taken is
 // refused, and what the calls leave is looked at.
 use super::small_day::{Built, building, first, is_day, is_untouched, load, reading, records};
-use nights::Plan;
 use plan_basics::{OpKey, Refusal};
+use plan_core::Plan;
 use plan_records::{Reply, Request};
 use std::alloc::Global;
-use taken_memory::{Held, Outcome};
+use taken_memory::{Held, MemoryOutcome};
 
 /// An import without memory answers so, and with memory it is done.
 pub fn an_import_without_memory_answers_so(alloc: Global) -> bool {
     let held = Held::all(alloc);
     let without = reading(alloc);
-    held.give_back() && without == Outcome::WithoutMemory && reading(alloc) == Outcome::Done
+    held.give_back()
+        && without == MemoryOutcome::WithoutMemory
+        && reading(alloc) == MemoryOutcome::Done
 }
 
 // What comes of building something of the day's records.
-fn built(alloc: Global, what: Built) -> Option<Outcome> {
+fn built(alloc: Global, what: Built) -> Option<MemoryOutcome> {
     match records(alloc, what) {
         Ok(records) => Some(building(what, records)),
         Err(_) => None,
@@ -23,7 +25,7 @@ fn built(alloc: Global, what: Built) -> Option<Outcome> {
 }
 
 // The same while all memory is taken.
-fn built_without(alloc: Global, what: Built) -> Option<Outcome> {
+fn built_without(alloc: Global, what: Built) -> Option<MemoryOutcome> {
     match records(alloc, what) {
         Ok(records) => {
             let held = Held::all(alloc);
@@ -40,8 +42,8 @@ fn built_without(alloc: Global, what: Built) -> Option<Outcome> {
 
 // Whether it is refused without memory, and built with it.
 fn is_refused_then_built(alloc: Global, what: Built) -> bool {
-    built_without(alloc, what) == Some(Outcome::WithoutMemory)
-        && built(alloc, what) == Some(Outcome::Done)
+    built_without(alloc, what) == Some(MemoryOutcome::WithoutMemory)
+        && built(alloc, what) == Some(MemoryOutcome::Done)
 }
 
 /// A draft is refused without memory, and built with it.

@@ -1,6 +1,7 @@
 // The two ways in which requests are made of a plan in memory.
-use nights::{Plan, Player};
+use nights::Player;
 use plan_basics::Refusal;
+use plan_core::Plan;
 use plan_records::{Reply, Request};
 use std::alloc::Global;
 

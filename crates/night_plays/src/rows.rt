@@ -1,6 +1,7 @@
 // Plans from rows.
 use super::kept_rows::put;
-use nights::{Plan, cut, is_seen, operation, request, resource};
+use nights::{cut, is_seen, operation, request, resource};
+use plan_core::Plan;
 use plan_records::{OperationRow, PlanRow, Request};
 use status_rules::Status;
 use std::alloc::Global;

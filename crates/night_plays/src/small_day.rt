@@ -1,13 +1,13 @@
 // A day of two operations, and what comes of its import, its build and its load.
 use super::imports::reading_plan;
-use nights::Plan;
 use plan_basics::{OpKey, Refusal, Watched};
+use plan_core::Plan;
 use plan_drafts::{Addition, Extension, PlanDraft, Record};
 use plan_import::read_plan;
 use plan_records::{Request, What};
 use std::alloc::{AllocError, Global};
 use std::array;
-use taken_memory::Outcome;
+use taken_memory::MemoryOutcome;
 
 const DAY: &str = "W,CPU1,A,,,,,,,
 I,CPU1,1972-01-01T00:00,2071-12-31T23:59,2,0,0,,,
@@ -21,7 +21,7 @@ D,DAILY,2024-03-01T22:00,10,DAILY,2024-03-01T22:00,20,,,
 const EVENING: i64 = 27_437_640;
 
 /// What comes of reading the day's text.
-pub fn reading(alloc: Global) -> Outcome {
+pub fn reading(alloc: Global) -> MemoryOutcome {
     reading_plan(alloc, DAY.as_bytes())
 }
 
@@ -63,16 +63,16 @@ pub fn records(alloc: Global, what: Built) -> Result<Vec<Record>, AllocError> {
 }
 
 // What comes of building something.
-fn outcome<T: Drop>(built: Result<Option<T>, Refusal>) -> Outcome {
+fn outcome<T: Drop>(built: Result<Option<T>, Refusal>) -> MemoryOutcome {
     match built {
-        Ok(Some(_)) => Outcome::Done,
-        Err(Refusal::Memory) => Outcome::WithoutMemory,
-        _ => Outcome::Otherwise,
+        Ok(Some(_)) => MemoryOutcome::Done,
+        Err(Refusal::Memory) => MemoryOutcome::WithoutMemory,
+        _ => MemoryOutcome::Otherwise,
     }
 }
 
 /// What comes of building it of records.
-pub fn building(what: Built, records: Vec<Record>) -> Outcome {
+pub fn building(what: Built, records: Vec<Record>) -> MemoryOutcome {
     match what {
         Built::Draft => outcome(PlanDraft::build(records)),
         Built::Addition => outcome(Addition::build(records)),

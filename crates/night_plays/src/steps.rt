@@ -1,7 +1,8 @@
 // What a request makes of the rows of the tables.
 use super::changes::are_changes;
 use super::players::OneByOne;
-use nights::{Plan, after_lines, cut, request};
+use nights::{after_lines, cut, request};
+use plan_core::Plan;
 use plan_records::Request;
 use std::alloc::Global;
 

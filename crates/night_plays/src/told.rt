@@ -1,8 +1,9 @@
 // Why operations of worked nights don't go on.
 use super::players::AtOnce;
 use super::reasons::REASONS;
-use nights::{Plan, Player, after_lines, cut};
+use nights::{Player, after_lines, cut};
 use plan_basics::{Moment, OpKey};
+use plan_core::Plan;
 use plan_reasons::{why, why_text};
 use std::alloc::Global;
 

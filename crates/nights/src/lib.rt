@@ -27,7 +27,6 @@ mod words;
 pub use long_chains::two_chains;
 pub use looks::{is_like, is_ready_alike, is_seen, is_told};
 pub use names::{operation, resource};
-pub use plan_core::{Plan, Prepared};
 pub use playing::{Deviation, Player, after, after_lines, pass};
 pub use requests::request;
 pub use sections::joined;

@@ -21,7 +21,7 @@ use Rattle.derived_figures.specs.plan_laws.proofs.Classes.{passes, waits_by, wai
 use Rattle.plan_checks.specs.Commands.{IsItsUnderWay}
 use Rattle.plan_checks.specs.Bars.{FailsAt, MeetsAll}
 use Rattle.derived_figures.specs.Reports.{IsReported}
-use Rattle.derived_figures.specs.declared.frame.Reported.{Reported}
+use Rattle.derived_figures.specs.declared.outlines.ReportedOperation.{ReportedOperation}
 use Rattle.plan_model.specs.workstations.specs.Timetables.{MayBeTaken}
 
 module _ (P : Contents) (o : OpKey) where
@@ -84,7 +84,7 @@ module _ (P : Contents) (o : OpKey) where
 
 -- ---- what is reported of an operation, in all plans where it is so
 
-module _ (x : Reported) where
+module _ (x : ReportedOperation) where
   -- a hold, a release, a NOP and its end
   pub flagged : is_waiting_or_ready x.status ≡ true → MeetsAll x MayBeFlagged
   flagged waits P o is refusal.WrongStatus = waits_by P o x.status is.status waits

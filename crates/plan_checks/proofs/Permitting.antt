@@ -21,7 +21,7 @@ use Rattle.plan_model.specs.workstations.specs.declared.Capacity.{Capacity}
 use Rattle.derived_figures.specs.start_choice.specs.Choices.{AreHeldIn, HasTaken, IsStartLine}
 use Rattle.plan_checks.specs.Bars.{FailsAt, MeetsAll}
 use Rattle.derived_figures.specs.Reports.{IsReported}
-use Rattle.derived_figures.specs.declared.frame.Reported.{Reported}
+use Rattle.derived_figures.specs.declared.outlines.ReportedOperation.{ReportedOperation}
 
 module _ (P : Contents) (o : OpKey) where
   running_by : (s : Status) → HasStatus P o s → holds_server (Some s) ≡ true → HasStatus P o status.Started ⊎ HasStatus P o status.Undecided
@@ -33,7 +33,7 @@ module _ (P : Contents) (o : OpKey) where
   startable_by status.Interrupted h e = inr h
   startable_by s h e = inl (ready_by P o s h e)
 
-  module _ (x : Reported) (is : IsReported P o x) where
+  module _ (x : ReportedOperation) (is : IsReported P o x) where
     pub is_running : holds_server (Some x.status) ≡ true → HasStatus P o status.Started ⊎ HasStatus P o status.Undecided
     is_running = running_by x.status is.status
 
@@ -49,7 +49,7 @@ module _ (P : Contents) (o : OpKey) where
 
 -- ---- what is reported of an operation, in all plans where it is so
 
-module _ (x : Reported) where
+module _ (x : ReportedOperation) where
   -- what an end or an error asks of it on a workstation of this attribute
   abbrev EndsOn : Attr → Contents → OpKey → Refusal → Type 0
   EndsOn a P o = MayBeEnded P o x.operation.now (Some a)

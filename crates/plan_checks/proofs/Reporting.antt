@@ -17,7 +17,7 @@ use Rattle.plan_checks.proofs.Searching.{if_err, if_ok, if_refused}
 use Rattle.plan_checks.specs.Bars.{FailsAt, MeetsAll}
 use Rattle.plan_records.specs.Changes.{operation_of}
 use Rattle.derived_figures.specs.Reports.{IsReported}
-use Rattle.derived_figures.specs.declared.frame.Reported.{Reported}
+use Rattle.derived_figures.specs.declared.outlines.ReportedOperation.{ReportedOperation}
 
 -- ---- one operation's lines
 
@@ -32,7 +32,7 @@ module _ (P : Contents) (o : OpKey) (rest : Operation → Refusal → Type 0) wh
   not_of_found op is known r never may = never (may op is)
 
 -- what all plans say, this one says of the operation
-module _ (P : Contents) (o : OpKey) (x : Reported) (lines : Contents → OpKey → Refusal → Type 0) (known : IsReported P o x) where
+module _ (P : Contents) (o : OpKey) (x : ReportedOperation) (lines : Contents → OpKey → Refusal → Type 0) (known : IsReported P o x) where
   pub met_at : {T E : Type 0} (r : Result T E) → OnOk r (MeetsAll x lines) → OnOk r (NoneRefuses (lines P o))
   met_at r met = if_ok r met (λ all. all P o known)
 
@@ -126,7 +126,7 @@ abbrev pub Tells : {T : Type 0} → Contents → ℕ → What → Result T Refus
 Tells P m v answer = record { ok : OnOk answer (NoneRefuses (MayBeDone P m v)); refused : IfErr answer (λ r. (r ≡ refusal.Memory) ⊎ IsLeastRefusal (MayBeDone P m v) r) }
 
 -- the request v asks these lines of the operation o, of which x is known
-module _ (P : Contents) (m : ℕ) {v : What} {o : OpKey} {x : Reported} {lines : AsksOf} (asks : Asks m v o lines) (reported : (q : OpKey) → operation_of v ≡ Some q → IsReported P q x) where
+module _ (P : Contents) (m : ℕ) {v : What} {o : OpKey} {x : ReportedOperation} {lines : AsksOf} (asks : Asks m v o lines) (reported : (q : OpKey) → operation_of v ≡ Some q → IsReported P q x) where
   pub known : IsReported P o x
   known = reported o asks.about
 

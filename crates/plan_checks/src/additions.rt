@@ -12,7 +12,7 @@ ghost use Rattle.plan_checks.specs.Additions.{HasRoomFor};
 use super::ends::ends_of_pairs;
 use super::growth::{grown_keys, grown_pairs, has_room};
 use super::known::{amounts_fit, are_new_occurrences, are_resources_known, are_workstations_known};
-use derived_figures::{Shown, Statuses, statuses_shown};
+use derived_figures::{CountedRecords, Statuses, statuses_shown};
 use operation_graph::Graph;
 use plan_basics::{OpKey, Refusal};
 use plan_drafts::{ExtensionParts, graph_of};
@@ -29,7 +29,7 @@ fn is_within_limits(
     requires { AreExtensionParts parts.now }
     ensures { Decides result (HasRoomFor plan.now (length parts.now.occurrences.items) (length keys.now) (length pairs.now) × AmountsFit plan.now.resources (added_of parts.now).operations) }
 {
-    has_room(&plan.beside(), parts.occurrences.len(), keys, pairs) && amounts_fit(plan, parts)
+    has_room(&plan.uncounted(), parts.occurrences.len(), keys, pairs) && amounts_fit(plan, parts)
 }
 
 // With what is added, no path of pairs returns to its start, the plan holds no more than it may, and no need is of more than
@@ -41,9 +41,9 @@ fn check_grown(alloc: Global, plan: &Statuses<'_>, parts: &ExtensionParts) -> Re
     ensures ok { OnOk result (NoneRefuses (from_on Refusal.Cycle (MayBeAdded plan.now (added_of parts.now)))) }
     ensures refused { IfErr result (λ r. (r ≡ Refusal.Memory) ⊎ IsLeastRefusal (from_on Refusal.Cycle (MayBeAdded plan.now (added_of parts.now))) r) }
 {
-    let beside = plan.beside();
-    let keys = grown_keys(alloc, &beside, parts)?;
-    let pairs = grown_pairs(alloc, &beside, parts)?;
+    let uncounted = plan.uncounted();
+    let keys = grown_keys(alloc, &uncounted, parts)?;
+    let pairs = grown_pairs(alloc, &uncounted, parts)?;
     if graph_of(alloc, &keys, &pairs)?.is_none() {
         Err(Refusal::Cycle)
     } else if !is_within_limits(plan, parts, &keys, &pairs) {
@@ -85,7 +85,7 @@ pub fn check_added(
 /// each.
 pub fn check_shown(
     alloc: Global,
-    shown: &mut Shown,
+    shown: &mut CountedRecords,
     graph: &Graph,
     parts: &ExtensionParts,
 ) -> Result<(), Refusal>
@@ -97,5 +97,5 @@ pub fn check_shown(
     ensures most { shown.new.looks ≤ shown.old.looks + len shown.old.contents.operations }
 {
     let statuses = statuses_shown(alloc, shown, graph)?;
-    check_added(alloc, &Statuses::of(shown.beside(), &statuses), parts)
+    check_added(alloc, &Statuses::of(shown.uncounted(), &statuses), parts)
 }

@@ -6,7 +6,7 @@ ghost use Rattle.plan_checks.specs.Commands.{Extends};
 ghost use Rattle.plan_records.specs.Changes.{operation_of};
 ghost use Rattle.plan_records.specs.Acceptance.{MayBeDone, MayBeEnded, MayBeInterrupted, MayBeUndecided, NeedsPlan};
 ghost use Rattle.plan_checks.specs.Bars.{FailsAt, MayBeStartedAt, MeetsAll};
-ghost use Rattle.derived_figures.specs.Frames.{IsFrameOf};
+ghost use Rattle.derived_figures.specs.DerivedRefs.{AreDerivedOf};
 ghost use Rattle.derived_figures.specs.Reports.{IsReported};
 ghost use Rattle.plan_checks.specs.Loads.{MayBeLoadedWhere};
 ghost use Rattle.plan_model.specs.Holdings.{takes};
@@ -17,7 +17,9 @@ use super::commands::{
     check_available, check_completed, check_deleted, check_flagged, check_open_by, check_rerun,
 };
 use super::dependencies::check_paired;
-use derived_figures::{Frame, Outline, Reported, Seen, Shown, check_start};
+use derived_figures::{
+    CountedRecords, DerivedRefs, Outline, ReportedOperation, SeenOperation, check_start,
+};
 use plan_basics::{Attr, Moment, OpKey, Refusal};
 use plan_drafts::PlanDraft;
 use plan_records::What;
@@ -25,7 +27,7 @@ use status_rules::{Mark, Status};
 use std::alloc::Global;
 
 // On an automatic workstation a start may be reported of what is named.
-fn check_started_on_automatic(reported: &Reported<'_>) -> Result<(), Refusal>
+fn check_started_on_automatic(reported: &ReportedOperation<'_>) -> Result<(), Refusal>
     requires { reported.now.attribute ≡ Attr.Automatic }
     ensures ok { (m : ℕ) → OnOk result (MeetsAll reported.now (MayBeStartedAt reported.now m)) }
     ensures refused { (m : ℕ) → IfErr result (FailsAt reported.now (MayBeStartedAt reported.now m)) }
@@ -43,7 +45,7 @@ fn check_started_on_automatic(reported: &Reported<'_>) -> Result<(), Refusal>
 fn check_started(
     outline: &Outline<'_>,
     key: &OpKey,
-    reported: &Reported<'_>,
+    reported: &ReportedOperation<'_>,
     at: Moment,
 ) -> Result<(), Refusal>
     requires { IsReported outline.now key.now reported.now }
@@ -56,11 +58,11 @@ fn check_started(
         Attr::StartAndCompletion => {
             let operation = reported.operation;
             let taken = outline.given_out_at(operation);
-            let beside = outline.beside();
-            let seen = Seen {
+            let uncounted = outline.uncounted();
+            let seen = SeenOperation {
                 key,
                 operation,
-                beside,
+                uncounted,
             };
             check_start(&seen, reported.place, &taken, outline.holdings(), at)
         }
@@ -69,7 +71,7 @@ fn check_started(
 }
 
 // Where starts are reported, an end or an error may be reported of what is started or undecided.
-fn check_ended_after_start(reported: &Reported<'_>) -> Result<(), Refusal>
+fn check_ended_after_start(reported: &ReportedOperation<'_>) -> Result<(), Refusal>
     requires { takes (Some reported.now.attribute) ≡ true }
     ensures ok { OnOk result (MeetsAll reported.now (λ P o. MayBeEnded P o reported.now.operation.now (Some reported.now.attribute))) }
     ensures refused { IfErr result (FailsAt reported.now (λ P o. MayBeEnded P o reported.now.operation.now (Some reported.now.attribute))) }
@@ -82,7 +84,7 @@ fn check_ended_after_start(reported: &Reported<'_>) -> Result<(), Refusal>
 }
 
 // Where only ends are reported, an end or an error may be reported of what is ready and not held.
-fn check_ended_without_start(reported: &Reported<'_>) -> Result<(), Refusal>
+fn check_ended_without_start(reported: &ReportedOperation<'_>) -> Result<(), Refusal>
     requires { reported.now.attribute ≡ Attr.CompletionOnly }
     ensures ok { OnOk result (MeetsAll reported.now (λ P o. MayBeEnded P o reported.now.operation.now (Some reported.now.attribute))) }
     ensures refused { IfErr result (FailsAt reported.now (λ P o. MayBeEnded P o reported.now.operation.now (Some reported.now.attribute))) }
@@ -98,7 +100,7 @@ fn check_ended_without_start(reported: &Reported<'_>) -> Result<(), Refusal>
 }
 
 // What stands in the way of an end or an error.
-fn check_ended(reported: &Reported<'_>) -> Result<(), Refusal>
+fn check_ended(reported: &ReportedOperation<'_>) -> Result<(), Refusal>
     ensures ok { OnOk result (MeetsAll reported.now (λ P o. MayBeEnded P o reported.now.operation.now (Some reported.now.attribute))) }
     ensures refused { IfErr result (FailsAt reported.now (λ P o. MayBeEnded P o reported.now.operation.now (Some reported.now.attribute))) }
 {
@@ -110,7 +112,7 @@ fn check_ended(reported: &Reported<'_>) -> Result<(), Refusal>
 }
 
 // An interruption may be reported of what is started where starts are reported.
-fn check_interrupted(reported: &Reported<'_>) -> Result<(), Refusal>
+fn check_interrupted(reported: &ReportedOperation<'_>) -> Result<(), Refusal>
     ensures ok { OnOk result (MeetsAll reported.now (λ P o. MayBeInterrupted P o reported.now.operation.now)) }
     ensures refused { IfErr result (FailsAt reported.now (λ P o. MayBeInterrupted P o reported.now.operation.now)) }
 {
@@ -124,7 +126,7 @@ fn check_interrupted(reported: &Reported<'_>) -> Result<(), Refusal>
 }
 
 // An unknown outcome may be reported of what is started.
-fn check_undecided(reported: &Reported<'_>) -> Result<(), Refusal>
+fn check_undecided(reported: &ReportedOperation<'_>) -> Result<(), Refusal>
     ensures ok { OnOk result (MeetsAll reported.now MayBeUndecided) }
     ensures refused { IfErr result (FailsAt reported.now MayBeUndecided) }
 {
@@ -139,7 +141,7 @@ fn check_undecided(reported: &Reported<'_>) -> Result<(), Refusal>
 fn check_reported(
     alloc: Global,
     outline: &Outline<'_>,
-    reported: &Reported<'_>,
+    reported: &ReportedOperation<'_>,
     what: &What,
     at: Moment,
 ) -> Result<(), Refusal>
@@ -171,13 +173,13 @@ fn check_reported(
 #[tactic(auto, using(crate::proofs::Reporting::unknown_operation))]
 fn check_operation(
     alloc: Global,
-    shown: &mut Shown,
-    frame: Frame<'_>,
+    shown: &mut CountedRecords,
+    derived: DerivedRefs<'_>,
     key: &OpKey,
     what: &What,
     at: Moment,
 ) -> Result<(), Refusal>
-    requires frame { IsFrameOf shown.old.contents frame }
+    requires derived { AreDerivedOf shown.old.contents derived }
     requires operation { operation_of what.now ≡ Some key.now }
     ensures ok { OnOk result (NoneRefuses (MayBeDone shown.old.contents at what.now)) }
     ensures refused { IfErr result (λ r. (r ≡ Refusal.Memory) ⊎ IsLeastRefusal (MayBeDone shown.old.contents at what.now) r) }
@@ -186,11 +188,11 @@ fn check_operation(
     ensures most { shown.new.looks ≤ shown.old.looks + 1 }
 {
     let place = shown
-        .beside()
+        .uncounted()
         .operation_place(key)
         .ok_or(Refusal::UnknownOperation)?;
     let seen = shown.see(place);
-    let outline = Outline::of(seen.beside, frame);
+    let outline = Outline::of(seen.uncounted, derived);
     let reported = outline.reported(seen.key, seen.operation, place);
     check_reported(alloc, &outline, &reported, what, at)
 }
@@ -223,12 +225,12 @@ fn check_unseen(alloc: Global, outline: &Outline<'_>, what: &What) -> Result<(),
 /// is found to decide it. It takes a look at the operation of which it reports, or that it commands, and at no other.
 pub fn check_request(
     alloc: Global,
-    shown: &mut Shown,
-    frame: Frame<'_>,
+    shown: &mut CountedRecords,
+    derived: DerivedRefs<'_>,
     what: &What,
     at: Moment,
 ) -> Result<(), Refusal>
-    requires frame { IsFrameOf shown.old.contents frame }
+    requires derived { AreDerivedOf shown.old.contents derived }
     requires needs { NeedsPlan what.now }
     requires stays { ¬ Extends what.now }
     ensures ok { OnOk result (NoneRefuses (MayBeDone shown.old.contents at what.now)) }
@@ -238,8 +240,8 @@ pub fn check_request(
     ensures most { shown.new.looks ≤ shown.old.looks + 1 }
 {
     match what.operation() {
-        Some(key) => check_operation(alloc, shown, frame, &key, what, at),
-        None => check_unseen(alloc, &Outline::of(shown.beside(), frame), what),
+        Some(key) => check_operation(alloc, shown, derived, &key, what, at),
+        None => check_unseen(alloc, &Outline::of(shown.uncounted(), derived), what),
     }
 }
 

@@ -10,13 +10,13 @@ ghost use Rattle.derived_figures.specs.Reports.{IsReported};
 
 use super::reach::reached_keys;
 use super::under_way::{is_another_under_way, is_occurrence_under_way};
-use derived_figures::{Outline, Reported};
+use derived_figures::{Outline, ReportedOperation};
 use plan_basics::{Interval, OccKey, OpKey, Refusal, ResName, WsName};
 use status_rules::OccStatus;
 use std::alloc::Global;
 
 /// A hold, a release, a NOP and its end may be commanded of what waits or is ready.
-pub fn check_flagged(reported: &Reported<'_>) -> Result<(), Refusal>
+pub fn check_flagged(reported: &ReportedOperation<'_>) -> Result<(), Refusal>
     ensures ok { OnOk result (MeetsAll reported.now MayBeFlagged) }
     ensures refused { IfErr result (FailsAt reported.now MayBeFlagged) }
 {
@@ -28,7 +28,7 @@ pub fn check_flagged(reported: &Reported<'_>) -> Result<(), Refusal>
 }
 
 /// A completion may be commanded of what is ready, under way or in error, and not held.
-pub fn check_completed(reported: &Reported<'_>) -> Result<(), Refusal>
+pub fn check_completed(reported: &ReportedOperation<'_>) -> Result<(), Refusal>
     ensures ok { OnOk result (MeetsAll reported.now (λ P o. MayBeCompleted P o reported.now.operation.now)) }
     ensures refused { IfErr result (FailsAt reported.now (λ P o. MayBeCompleted P o reported.now.operation.now)) }
 {
@@ -48,7 +48,7 @@ pub fn check_rerun(
     alloc: Global,
     outline: &Outline<'_>,
     key: &OpKey,
-    reported: &Reported<'_>,
+    reported: &ReportedOperation<'_>,
 ) -> Result<(), Refusal>
     requires { IsReported outline.now key.now reported.now }
     ensures ok { OnOk result (NoneRefuses (MayBeRerun outline.now key.now)) }
@@ -97,7 +97,7 @@ pub fn check_available(outline: &Outline<'_>, name: &ResName) -> Result<(), Refu
     ensures ok { OnOk result (NoneRefuses (MayBeSetAvailable outline.now name.now)) }
     ensures refused { IfErr result (IsLeastRefusal (MayBeSetAvailable outline.now name.now)) }
 {
-    match outline.beside().resource(name) {
+    match outline.uncounted().resource(name) {
         Some(_) => Ok(()),
         None => Err(Refusal::UnknownResource),
     }
@@ -113,8 +113,10 @@ pub fn check_open_by(
     ensures ok { OnOk result (NoneRefuses (MayBeOpenBy outline.now name.now intervals.now)) }
     ensures refused { IfErr result (λ r. (r ≡ Refusal.Memory) ⊎ IsLeastRefusal (MayBeOpenBy outline.now name.now intervals.now) r) }
 {
-    let beside = outline.beside();
-    let workstation = beside.workstation(name).ok_or(Refusal::UnknownWorkstation)?;
+    let uncounted = outline.uncounted();
+    let workstation = uncounted
+        .workstation(name)
+        .ok_or(Refusal::UnknownWorkstation)?;
     let mut workstation = workstation.try_clone()?;
     workstation.replace_intervals(Vec::from_slice(alloc, intervals)?)
 }

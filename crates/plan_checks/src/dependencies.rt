@@ -81,7 +81,7 @@ pub fn check_paired(
     ensures ok { OnOk result (NoneRefuses (MayBePaired outline.now predecessor.now successor.now)) }
     ensures refused { IfErr result (λ r. (r ≡ Refusal.Memory) ⊎ IsLeastRefusal (MayBePaired outline.now predecessor.now successor.now) r) }
 {
-    let pairs = outline.beside().pairs();
+    let pairs = outline.uncounted().pairs();
     let graph = outline.graph();
     let before = outline
         .place_of(predecessor)

@@ -26,7 +26,9 @@ pub fn is_own(parts: &ExtensionParts, key: &OpKey) -> bool
 fn has_workstation(plan: &Statuses<'_>, operation: &OperationRecord) -> bool
     ensures { Decides result (HasWorkstation plan.now operation.now) }
 {
-    plan.beside().workstation(&operation.workstation).is_some()
+    plan.uncounted()
+        .workstation(&operation.workstation)
+        .is_some()
 }
 
 /// Whether the plan has the workstations of all operations that are added.
@@ -44,7 +46,7 @@ pub fn are_workstations_known(plan: &Statuses<'_>, parts: &ExtensionParts) -> bo
 fn has_resource(plan: &Statuses<'_>, name: &ResName) -> bool
     ensures { Decides result (contains_key plan.now.resources name.now ≡ true) }
 {
-    plan.beside().resource(name).is_some()
+    plan.uncounted().resource(name).is_some()
 }
 
 // Whether the special resources that the operation needs are in the plan.
@@ -73,7 +75,7 @@ pub fn are_resources_known(plan: &Statuses<'_>, parts: &ExtensionParts) -> bool
 fn is_within_stock(plan: &Statuses<'_>, need: &Need) -> bool
     ensures { Decides result (HasSoMuch plan.now need.now.name need.now.amount) }
 {
-    match plan.beside().resource(&need.name) {
+    match plan.uncounted().resource(&need.name) {
         Some(stock) => need.amount <= stock.quantity,
         None => true,
     }
@@ -102,7 +104,7 @@ pub fn amounts_fit(plan: &Statuses<'_>, parts: &ExtensionParts) -> bool
 fn is_new_occurrence(plan: &Statuses<'_>, key: &OccKey) -> bool
     ensures { Decides result (contains_key plan.now.occurrences key.now ≡ false) }
 {
-    plan.beside().occurrence(key).is_none()
+    plan.uncounted().occurrence(key).is_none()
 }
 
 /// Whether the plan has none of the occurrences that are added.

@@ -14,9 +14,10 @@ mod under_way;
 pub use additions::check_shown;
 pub use checks::{check_load, check_request};
 pub use derived_figures::{
-    Beside, Brief, Choice, Figures, Outline, RecordCopy, Restating, Shown, SoundContents, Standing,
-    chosen_with, entries_at, entries_briefed, is_one_of, mark_all, relist_all, restand, restate,
-    restate_all, retake, satisfy, set_held, set_nop, unsatisfy,
+    Choice, CountedRecords, Figures, OperationSummary, Outline, RecordCopy, SoundContents,
+    Standing, StatusBasis, UncountedContents, chosen_with, entries_at, entries_by_summaries,
+    is_one_of, mark_all, relist_all, retake, satisfy, set_held, set_nop, set_statuses, unsatisfy,
+    update_standings, update_statuses,
 };
 pub use reach::reached_keys;
 pub use special_resources::Holdings;

@@ -9,7 +9,7 @@ ghost use Rattle.plan_model.specs.Starts.{Reaches};
 ghost use Rattle.plan_model.specs.ready_list.specs.Choice.{is_among};
 ghost use Rattle.plan_checks.specs.Reach.{is_live_status};
 
-use derived_figures::{Beside, Outline};
+use derived_figures::{Outline, UncountedContents};
 use plan_basics::{OpKey, Refusal};
 use status_rules::Status;
 use std::alloc::{AllocError, Global};
@@ -33,21 +33,25 @@ fn is_live(status: &Status) -> bool
 }
 
 /// The key of the operation at an index.
-pub fn key_at(beside: &Beside<'_>, place: usize) -> OpKey
-    requires { place < length (entries beside.now.contents.now.operations) }
-    ensures { slice_get (keys_in beside.now.contents.now.operations) place ≡ Some result }
+pub fn key_at(uncounted: &UncountedContents<'_>, place: usize) -> OpKey
+    requires { place < length (entries uncounted.now.contents.now.operations) }
+    ensures { slice_get (keys_in uncounted.now.contents.now.operations) place ≡ Some result }
 {
-    *beside.operation_key(place)
+    *uncounted.operation_key(place)
 }
 
 // The keys of the operations at these indices.
-fn keys_at(alloc: Global, beside: &Beside<'_>, places: &[usize]) -> Result<Vec<OpKey>, AllocError>
-    requires { All (λ place. place < length (entries beside.now.contents.now.operations)) places.now }
-    ensures { IfOk result (λ keys. StandAt (keys_in beside.now.contents.now.operations) places.now keys.items) }
+fn keys_at(
+    alloc: Global,
+    uncounted: &UncountedContents<'_>,
+    places: &[usize],
+) -> Result<Vec<OpKey>, AllocError>
+    requires { All (λ place. place < length (entries uncounted.now.contents.now.operations)) places.now }
+    ensures { IfOk result (λ keys. StandAt (keys_in uncounted.now.contents.now.operations) places.now keys.items) }
 {
     let mut keys = Vec::with_capacity(alloc, places.len())?;
     for place in places {
-        keys.push(key_at(beside, *place))?;
+        keys.push(key_at(uncounted, *place))?;
     }
     Ok(keys)
 }
@@ -63,9 +67,9 @@ pub fn reached_keys(
     ensures reached { IfOk result (λ keys. (o : OpKeyValue) → (is_among keys.items o ≡ true) ↔ Reaches outline.now key.now o) }
     ensures refused { IfErr result (λ r. r ≡ Refusal.Memory) }
 {
-    let beside = outline.beside();
-    let place = beside.known_operation_place(key);
+    let uncounted = outline.uncounted();
+    let place = uncounted.known_operation_place(key);
     let live = live_of(alloc, outline.statuses())?;
     let places = outline.graph().reach(place, &live)?;
-    Ok(keys_at(alloc, &beside, &places)?)
+    Ok(keys_at(alloc, &uncounted, &places)?)
 }

@@ -34,7 +34,7 @@ fn is_its_under_way(outline: &Outline<'_>, occurrence: &OccKey, place: usize) ->
     requires { place < length (entries outline.now.operations) }
     ensures { (o : OpKeyValue) → (op : Operation) → slice_get (entries outline.now.operations) place ≡ Some (o, op) → Decides result (IsItsUnderWay outline.now occurrence.now o) }
 {
-    let key = *outline.beside().operation_key(place);
+    let key = *outline.uncounted().operation_key(place);
     key.occurrence == *occurrence && outline.status_at(place).is_under_way()
 }
 
@@ -42,7 +42,7 @@ fn is_its_under_way(outline: &Outline<'_>, occurrence: &OccKey, place: usize) ->
 pub fn is_occurrence_under_way(outline: &Outline<'_>, occurrence: &OccKey) -> bool
     ensures { Decides result ((o : OpKeyValue) × IsItsUnderWay outline.now occurrence.now o) }
 {
-    for place in 0..outline.beside().operation_count() {
+    for place in 0..outline.uncounted().operation_count() {
         if is_its_under_way(outline, occurrence, place) {
             return true;
         }

@@ -15,7 +15,7 @@ use Rattle.plan_core.proofs.OpViews.{size}
 use Rattle.plan_opening.specs.plan_rows.proofs.SideBySide.{left_from, length_viewed}
 use Rattle.plan_opening.specs.plan_rows.specs.Shown.{IsShown, IsShownIfAny, known_of}
 use Rattle.plan_core.specs.Views.{AreOccViews, AreOpViews, occ_view_of, occ_views, op_view_of, op_views, views_from}
-use Rattle.plan_opening.specs.plan_rows.specs.declared.shown.RowSource.{RowSource}
+use Rattle.plan_opening.specs.plan_rows.specs.declared.row_sources.RowSource.{RowSource}
 
 -- ---- where nothing is loaded
 

@@ -20,7 +20,7 @@ use Rattle.plan_records.specs.plan_drafts.proofs.EntryRows.{among_keys, has_key,
 use Rattle.plan_opening.specs.plan_rows.proofs.SideBySide.{from_viewed, keys_viewed, viewed_at}
 use Rattle.plan_opening.specs.plan_rows.specs.Shown.{IsShown}
 use Rattle.plan_core.specs.Views.{AreOccViews, IsOccView, occ_view_of, occ_views}
-use Rattle.plan_opening.specs.plan_rows.specs.declared.shown.RowSource.{RowSource}
+use Rattle.plan_opening.specs.plan_rows.specs.declared.row_sources.RowSource.{RowSource}
 use Rattle.plan_core.specs.declared.views.OccView.{OccView}
 use Rattle.status_rules.specs.Table.{occurrence_by}
 use Rattle.status_rules.specs.declared.Counts.{Counts}

@@ -18,7 +18,7 @@ use Rattle.plan_records.specs.plan_drafts.proofs.EntryRows.{among_keys, has_key,
 use Rattle.plan_opening.specs.plan_rows.proofs.SideBySide.{from_viewed, from_zipped, keys_viewed, length_zipped, viewed_at, zipped_at}
 use Rattle.plan_opening.specs.plan_rows.specs.Shown.{IsShown, Known, known_of}
 use Rattle.plan_core.specs.Views.{AreOpViews, IsOpView, op_view_of, op_views, priority_of}
-use Rattle.plan_opening.specs.plan_rows.specs.declared.shown.RowSource.{RowSource}
+use Rattle.plan_opening.specs.plan_rows.specs.declared.row_sources.RowSource.{RowSource}
 use Rattle.plan_core.specs.declared.views.OpView.{OpView}
 
 module _ (s : RowSource) (shown : IsShown s) where

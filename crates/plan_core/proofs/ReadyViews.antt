@@ -19,7 +19,7 @@ use Rattle.plan_records.specs.plan_drafts.proofs.EntryRows.{entry_of}
 use Rattle.plan_core.proofs.OpViews.{are_op_views, op_view_is, op_view_there}
 use Rattle.plan_opening.specs.plan_rows.specs.Shown.{IsShown}
 use Rattle.plan_core.specs.Views.{AreReadyViews, IsOpView, is_at_workstation, is_on, op_views, ready_views, view_at}
-use Rattle.plan_opening.specs.plan_rows.specs.declared.shown.RowSource.{RowSource}
+use Rattle.plan_opening.specs.plan_rows.specs.declared.row_sources.RowSource.{RowSource}
 use Rattle.plan_core.specs.declared.views.OpView.{OpView}
 
 keyed : List OpView → List (OpKey × OpView)

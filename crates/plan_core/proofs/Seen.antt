@@ -4,14 +4,14 @@ use Rattle.plan_basics.specs.declared.Refusal.{Refusal}
 use Rattle.plan_basics.specs.declared.keys.OpKey.{OpKey}
 use Rattle.plan_core.specs.Prepares.{IsPreparedIn, prepared_by}
 use Rattle.plan_core.specs.State.{PlanState, PreparedState, plan_after}
-use Rattle.request_outcomes.specs.Anew.{AreLooksAnew, IsAnewOf, IsRemadeBy}
+use Rattle.request_outcomes.specs.Rebuilds.{AreRebuildLooks, IsRebuildOf, IsRebuiltBy}
 use Rattle.request_outcomes.specs.Looked.{AreAllowed, CoverRows}
 use Rattle.request_outcomes.specs.Next.{contents_next}
-use Rattle.request_outcomes.specs.Outcomes.{AreLooksTo, IsOutcomeOf}
-use Rattle.request_outcomes.specs.declared.accepted.Next.TheVariants.{Whole}
-use Rattle.request_outcomes.specs.declared.accepted.Outcome.{Outcome}
-use Rattle.request_outcomes.specs.declared.anew.Anew.{Anew}
-use Rattle.request_outcomes.specs.declared.anew.Remade.{Remade}
+use Rattle.request_outcomes.specs.AcceptedOutcomes.{AreLooksTo, IsAcceptedOutcomeOf}
+use Rattle.request_outcomes.specs.declared.accepted.NextPlan.TheVariants.{Whole}
+use Rattle.request_outcomes.specs.declared.accepted.AcceptedOutcome.{AcceptedOutcome}
+use Rattle.request_outcomes.specs.declared.rebuilds.Rebuild.{Rebuild}
+use Rattle.request_outcomes.specs.declared.rebuilds.Rebuilt.{Rebuilt}
 use Rattle.plan_records.specs.Work.{IsAllowance}
 use Rattle.plan_records.specs.declared.Request.{Request}
 use Rattle.plan_model.specs.Contents.{Contents}
@@ -22,16 +22,16 @@ pub seen_sound : (clock : ℕ) (x : Option Contents) (s : PlanState) → IsSound
 seen_sound clock x s sound is = subst (λ (s : PlanState). IsSoundPlan s.plan) is sound
 
 -- what a request leads to is prepared so
-pub prepared_in : (P : Plan) (q : Request) (m : ℕ) (x : Outcome) (looks : ℕ) → IsOutcomeOf P q m x → AreLooksTo P.contents q.what x looks → IsPreparedIn P q (prepared_by m x looks)
+pub prepared_in : (P : Plan) (q : Request) (m : ℕ) (x : AcceptedOutcome) (looks : ℕ) → IsAcceptedOutcomeOf P q m x → AreLooksTo P.contents q.what x looks → IsPreparedIn P q (prepared_by m x looks)
 prepared_in P q m x looks of are = record { by = record { step = of.step; changes = of.changes; fits = of.fits }; looks = are }
 
 -- what a plan that was made anew is led to, put together
-pub prepared_anew : (P : Plan) (q : Request) (m : ℕ) (a : Anew) (x : Remade) → a.remade ≡ Ok x → IsAnewOf P q m a → (looks work : ℕ) → AreLooksAnew P.contents q.what a looks → looks ≤ work → work ≤ looks + a.shown.looks → (loaded : Contents)
-    → loaded ≡ a.shown.contents → IsPreparedIn P q (prepared_by m (record { next = Whole loaded; named = x.settled.named; changes = x.changes }) work)
-prepared_anew P q m a x is of looks work are fewest most loaded same =
-    let by = subst (λ r. IfOk r (IsRemadeBy P q m a.shown.contents)) is of.remade in
-    let looked = subst (λ r. IfOk r (λ (x : Remade). AreAllowed P.contents q.what a.shown.contents (looks + a.shown.looks) × CoverRows P.contents x.changes.rows.items looks)) is are in
-    let stepped = subst (λ (R : Contents). IsRemadeBy P q m R x) (sym same) by in
+pub prepared_rebuild : (P : Plan) (q : Request) (m : ℕ) (a : Rebuild) (x : Rebuilt) → a.rebuilt ≡ Ok x → IsRebuildOf P q m a → (looks work : ℕ) → AreRebuildLooks P.contents q.what a looks → looks ≤ work → work ≤ looks + a.shown.looks → (loaded : Contents)
+    → loaded ≡ a.shown.contents → IsPreparedIn P q (prepared_by m (record { next = Whole loaded; named = x.rebuilt_parts.named; changes = x.changes }) work)
+prepared_rebuild P q m a x is of looks work are fewest most loaded same =
+    let by = subst (λ r. IfOk r (IsRebuiltBy P q m a.shown.contents)) is of.rebuilt in
+    let looked = subst (λ r. IfOk r (λ (x : Rebuilt). AreAllowed P.contents q.what a.shown.contents (looks + a.shown.looks) × CoverRows P.contents x.changes.rows.items looks)) is are in
+    let stepped = subst (λ (R : Contents). IsRebuiltBy P q m R x) (sym same) by in
     record {
       by = record { step = stepped.step; changes = stepped.changes; fits = tt };
       looks = record {

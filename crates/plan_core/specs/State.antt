@@ -4,8 +4,8 @@ use Rattle.std.specs.Coded.{Coded, code_by, coded×, coded_ℕ, coded_list}
 use Rattle.plan_basics.specs.contracts.keys.OpKey as operation_key
 use Rattle.plan_basics.specs.declared.keys.OpKey.{OpKey}
 use Rattle.request_outcomes.specs.Next.{IsNextFor, contents_next}
-use Rattle.request_outcomes.specs.contracts.accepted.Next as next_row
-use Rattle.request_outcomes.specs.declared.accepted.Next.{Next}
+use Rattle.request_outcomes.specs.contracts.accepted.NextPlan as next_row
+use Rattle.request_outcomes.specs.declared.accepted.NextPlan.{NextPlan}
 use Rattle.plan_records.specs.plan_drafts.specs.contracts.RowKey as row_key
 use Rattle.plan_records.specs.plan_drafts.specs.declared.RowKey.{RowKey}
 use Rattle.plan_model.specs.Plan.{Plan, plan_held}
@@ -25,7 +25,7 @@ pub record PlanState : Type 0 where
 -- the moment of a request, what it makes of the plan; the operations that are named, in order, and the rows of the tables that change: those that are new or differ, and the keys of those that are gone; and how many operation records were looked at
 pub record PreparedState : Type 0 where
   pub clock : ℕ
-  pub next : Next
+  pub next : NextPlan
   pub named : List OpKey
   pub rows : List PlanRow
   pub gone : List RowKey
@@ -38,7 +38,7 @@ state_code = code_by Plan plan_code (λ s. s.plan) (λ P. record { plan = P }) (
 -- a prepared request is stored as its six parts
 abbrev pub prepared_code : Coded PreparedState
 prepared_code = code_by
-    (((ℕ × Next) × (List OpKey × ℕ)) × (List PlanRow × List RowKey))
+    (((ℕ × NextPlan) × (List OpKey × ℕ)) × (List PlanRow × List RowKey))
     (coded× (coded× (coded× coded_ℕ (next_row.the_row).coded) (coded× (coded_list (operation_key.the_row).coded) coded_ℕ)) (coded× (coded_list (plan_row.the_row).coded) (coded_list (row_key.the_row).coded)))
     (λ s. (((s.clock, s.next), (s.named, s.work)), (s.rows, s.gone)))
     (λ p. record { clock = p.0.0.0; next = p.0.0.1; named = p.0.1.0; rows = p.1.0; gone = p.1.1; work = p.0.1.1 })

@@ -20,7 +20,7 @@ use Rattle.status_rules.specs.Table.{occurrence_by}
 use Rattle.status_rules.specs.declared.Counts.{Counts}
 use Rattle.status_rules.specs.declared.Status.TheVariants.{Complete}
 use Rattle.plan_opening.specs.plan_rows.specs.Shown.{IsShown, Known, known_of}
-use Rattle.plan_opening.specs.plan_rows.specs.declared.shown.RowSource.{RowSource}
+use Rattle.plan_opening.specs.plan_rows.specs.declared.row_sources.RowSource.{RowSource}
 use Rattle.plan_core.specs.declared.views.OccView.{OccView}
 use Rattle.plan_core.specs.declared.views.OpView.{OpView}
 

@@ -11,11 +11,13 @@ ghost use Rattle.plan_records.specs.Answer.{accepted, answer_of, refused};
 ghost use Rattle.plan_records.specs.Step.{Step};
 ghost use Rattle.plan_records.specs.plan_drafts.specs.Drafts.{IsDraft};
 ghost use Rattle.plan_records.specs.plan_drafts.specs.PlanGraphs.{IsGraphFor};
-ghost use Rattle.plan_opening.specs.derived_figures.specs.Afresh.{IsWorkedOut};
+ghost use Rattle.plan_opening.specs.derived_figures.specs.Afresh.{IsDerivedAfresh};
 ghost use Rattle.plan_core.specs.Trials.{IsAnswerAlone, load_at};
 
 use plan_basics::{Moment, OpKey, Refusal};
-use plan_opening::{DraftParts, Shown, SoundContents, WorkedOut, chosen_with, worked_out};
+use plan_opening::{
+    CountedRecords, DerivedAfresh, DraftParts, SoundContents, chosen_with, derived_afresh,
+};
 use plan_records::{PlanDraft, Reply};
 use record_permits::granted;
 use request_outcomes::{Graph, check_load};
@@ -38,15 +40,15 @@ fn check(at: i64, draft: &Option<PlanDraft>) -> Result<Moment, Refusal>
 // What is named at a moment in what is shown, where this was worked out of it; nothing is marked. The error is always `Memory`.
 fn named_by(
     alloc: Global,
-    shown: Shown,
-    worked_out: WorkedOut,
+    shown: CountedRecords,
+    derived_afresh: DerivedAfresh,
     at: Moment,
-) -> (Shown, Result<Vec<OpKey>, Refusal>)
-    requires { IsWorkedOut shown.contents worked_out }
+) -> (CountedRecords, Result<Vec<OpKey>, Refusal>)
+    requires { IsDerivedAfresh shown.contents derived_afresh }
     ensures chosen { IfOk result.1 (λ keys. IsChosen shown.contents at keys.items) }
     ensures refused { IfErr result.1 (λ r. r ≡ Refusal.Memory) }
 {
-    let figures = worked_out.figures;
+    let figures = derived_afresh.figures;
     let (given, holdings) = (figures.given, figures.holdings);
     let (shown, choice) = chosen_with(alloc, shown, &figures.ready, at, given, holdings);
     match choice {
@@ -58,17 +60,17 @@ fn named_by(
 // What is named at a moment in what is shown, with this graph. The error is always `Memory`.
 fn named_in(
     alloc: Global,
-    shown: Shown,
+    shown: CountedRecords,
     graph: &Graph,
     at: Moment,
-) -> (Shown, Result<Vec<OpKey>, Refusal>)
+) -> (CountedRecords, Result<Vec<OpKey>, Refusal>)
     requires { IsGraphFor shown.contents graph.now }
     ensures chosen { IfOk result.1 (λ keys. IsChosen shown.contents at keys.items) }
     ensures refused { IfErr result.1 (λ r. r ≡ Refusal.Memory) }
 {
     let mut shown = shown;
-    match worked_out(alloc, &mut shown, graph) {
-        Ok(worked_out) => named_by(alloc, shown, worked_out, at),
+    match derived_afresh(alloc, &mut shown, graph) {
+        Ok(derived_afresh) => named_by(alloc, shown, derived_afresh, at),
         Err(refusal) => (shown, Err(refusal)),
     }
 }
@@ -85,7 +87,7 @@ fn named_at(
     ensures refused { IfErr result (λ r. r ≡ Refusal.Memory) }
 {
     let permit = granted();
-    let shown = Shown::of(contents, &permit);
+    let shown = CountedRecords::of(contents, &permit);
     let (shown, named) = named_in(alloc, shown, graph, at);
     let _ = shown.into_contents(&permit);
     named

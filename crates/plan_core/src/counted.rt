@@ -1,8 +1,8 @@
 // A plan that is taken apart while a request is prepared, and put together again.
 ghost use Rattle.std.specs.Prelude.{◌≡◌, ◌⊎◌, ◌≤ℤ◌, pos, None, Some, IfErr, IfOk};
 ghost use Rattle.plan_basics.specs.declared.Refusal.{Refusal};
-ghost use Rattle.request_outcomes.specs.Anew.{AreLooksAnew, IsAnewOf};
-ghost use Rattle.request_outcomes.specs.Led.{AreLooksLed, IsLedOf};
+ghost use Rattle.request_outcomes.specs.Rebuilds.{AreRebuildLooks, IsRebuildOf};
+ghost use Rattle.request_outcomes.specs.RequestOutcomes.{AreRequestOutcomeLooks, IsRequestOutcomeOf};
 ghost use Rattle.plan_core.specs.Prepares.{IsPreparedIn};
 ghost use Rattle.plan_records.specs.Answer.{refused};
 ghost use Rattle.plan_records.specs.Step.{Step};
@@ -11,33 +11,42 @@ ghost use Rattle.plan_model.specs.Plan.{IsSoundPlan, Plan, plan_held};
 
 use super::prepared::Prepared;
 use plan_basics::{Moment, Refusal};
-use plan_opening::{LoadedPlan, Parts, Shown, SoundContents};
+use plan_opening::{CountedRecords, LoadedParts, LoadedPlan, SoundContents};
 use plan_records::{Request, What};
 use record_permits::{Permit, granted};
 use request_outcomes::{
-    Anew, Asked, Led, Next, Outcome, Remade, Settled, first_outcome, outcome_of,
+    AcceptedOutcome, DatedRequest, NextPlan, Rebuild, Rebuilt, RebuiltParts, RequestOutcome,
+    first_outcome, outcome_of,
 };
 use std::alloc::Global;
 
 // What was prepared with a plan that was made anew, which is put together: its looks count beside those at the plan before. Or what the
 // request that led there is refused for.
-fn prepared_anew(at: Moment, anew: Anew, looks: u64, permit: &Permit) -> Result<Prepared, Refusal>
-    requires { (P : Plan) × (request : Request) × IsAnewOf P request at anew }
-    ensures prepared { (P : Plan) (request : Request) → IsAnewOf P request at anew → AreLooksAnew P.contents request.what anew looks → IfOk result (IsPreparedIn P request) }
-    ensures refused { IfErr result (λ r. (P : Plan) (request : Request) → IsAnewOf P request at anew → (r ≡ Refusal.Memory) ⊎ Step P request (refused r) P) }
+fn prepared_rebuild(
+    at: Moment,
+    rebuild: Rebuild,
+    looks: u64,
+    permit: &Permit,
+) -> Result<Prepared, Refusal>
+    requires { (P : Plan) × (request : Request) × IsRebuildOf P request at rebuild }
+    ensures prepared { (P : Plan) (request : Request) → IsRebuildOf P request at rebuild → AreRebuildLooks P.contents request.what rebuild looks → IfOk result (IsPreparedIn P request) }
+    ensures refused { IfErr result (λ r. (P : Plan) (request : Request) → IsRebuildOf P request at rebuild → (r ≡ Refusal.Memory) ⊎ Step P request (refused r) P) }
 {
-    let Anew { shown, remade } = anew;
+    let Rebuild { shown, rebuilt } = rebuild;
     let (contents, more) = shown.into_contents(permit);
-    let Remade { settled, changes } = remade?;
-    let Settled {
+    let Rebuilt {
+        rebuilt_parts,
+        changes,
+    } = rebuilt?;
+    let RebuiltParts {
         named,
         graph,
         latest,
         figures,
-    } = settled;
+    } = rebuilt_parts;
     let plan = LoadedPlan::of(contents, graph, latest, figures);
-    let outcome = Outcome {
-        next: Next::Whole(plan),
+    let outcome = AcceptedOutcome {
+        next: NextPlan::Whole(plan),
         named,
         changes,
     };
@@ -45,14 +54,19 @@ fn prepared_anew(at: Moment, anew: Anew, looks: u64, permit: &Permit) -> Result<
 }
 
 // What was prepared by what a request leads to in a plan at which so many looks were taken, or what it is refused for.
-fn prepared_by(at: Moment, led: Led, looks: u64, permit: &Permit) -> Result<Prepared, Refusal>
-    requires { (P : Plan) × (request : Request) × IsLedOf P request at led }
-    ensures prepared { (P : Plan) (request : Request) → IsLedOf P request at led → AreLooksLed P.contents request.what led looks → IfOk result (IsPreparedIn P request) }
-    ensures refused { IfErr result (λ r. (P : Plan) (request : Request) → IsLedOf P request at led → (r ≡ Refusal.Memory) ⊎ Step P request (refused r) P) }
+fn prepared_by(
+    at: Moment,
+    outcome: RequestOutcome,
+    looks: u64,
+    permit: &Permit,
+) -> Result<Prepared, Refusal>
+    requires { (P : Plan) × (request : Request) × IsRequestOutcomeOf P request at outcome }
+    ensures prepared { (P : Plan) (request : Request) → IsRequestOutcomeOf P request at outcome → AreRequestOutcomeLooks P.contents request.what outcome looks → IfOk result (IsPreparedIn P request) }
+    ensures refused { IfErr result (λ r. (P : Plan) (request : Request) → IsRequestOutcomeOf P request at outcome → (r ≡ Refusal.Memory) ⊎ Step P request (refused r) P) }
 {
-    match led {
-        Led::Small(outcome) => Ok(Prepared::of(at, outcome, looks)),
-        Led::Whole(anew) => prepared_anew(at, anew, looks, permit),
+    match outcome {
+        RequestOutcome::Small(accepted) => Ok(Prepared::of(at, accepted, looks)),
+        RequestOutcome::Whole(rebuild) => prepared_rebuild(at, rebuild, looks, permit),
     }
 }
 
@@ -69,8 +83,8 @@ fn prepare_first(
     ensures prepared { IfOk result (IsPreparedIn (plan_held clock None) request.now) }
     ensures refused { IfErr result (λ r. (r ≡ Refusal.Memory) ⊎ Step (plan_held clock None) request.now (refused r) (plan_held clock None)) }
 {
-    let anew = first_outcome(alloc, clock, request, at)?;
-    prepared_anew(at, anew, 0, &granted())
+    let rebuild = first_outcome(alloc, clock, request, at)?;
+    prepared_rebuild(at, rebuild, 0, &granted())
 }
 
 // The same contents, in which the operation that a report or a command is of is found without a search.
@@ -99,20 +113,20 @@ fn prepare_loaded(
     ensures prepared { IfOk result.1 (IsPreparedIn (plan_held clock (Some loaded)) request.now) }
     ensures refused { IfErr result.1 (λ r. (r ≡ Refusal.Memory) ⊎ Step (plan_held clock (Some loaded)) request.now (refused r) (plan_held clock (Some loaded))) }
 {
-    let Parts {
+    let LoadedParts {
         contents,
         graph,
         latest,
         figures,
     } = loaded.into_parts();
     let permit = granted();
-    let shown = Shown::of(seeking(contents, &request.what), &permit);
-    let asked = Asked { clock, request, at };
-    let (shown, figures, led) = outcome_of(alloc, shown, &graph, &latest, figures, &asked);
+    let shown = CountedRecords::of(seeking(contents, &request.what), &permit);
+    let asked = DatedRequest { clock, request, at };
+    let (shown, figures, outcome) = outcome_of(alloc, shown, &graph, &latest, figures, &asked);
     let (contents, looks) = shown.into_contents(&permit);
     let plan = LoadedPlan::of(contents, graph, latest, figures);
-    match led {
-        Ok(led) => (plan, prepared_by(at, led, looks, &permit)),
+    match outcome {
+        Ok(outcome) => (plan, prepared_by(at, outcome, looks, &permit)),
         Err(refusal) => (plan, Err(refusal)),
     }
 }

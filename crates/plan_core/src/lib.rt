@@ -17,7 +17,8 @@ pub use alone::answer_alone;
 pub use lists::{Occs, Ops};
 pub use plan::Plan;
 pub use plan_opening::{
-    Beside, LoadedPlan, Reported, SoundContents, briefs_of, given_out_of, holdings_in,
+    LoadedPlan, ReportedOperation, SoundContents, UncountedContents, given_out_of, holdings_in,
+    summaries_of,
 };
 pub use prepared::Prepared;
 pub use ready_views::Ready;

@@ -82,7 +82,7 @@ impl Plan {
     }
 
     // The plan is looked at for the proof alone, which learns that it is sound.
-    fn look_at(&self)
+    fn read_for_proof(&self)
         ensures { IsSoundPlan self.now.plan }
     {
         let _ = self.clock();
@@ -105,7 +105,7 @@ impl Plan {
         ensures fewest { IfOk result (λ p. CoverRows self.old.plan.contents p.rows p.work) }
         ensures refused { IfErr result (λ r. (r ≡ Refusal.Memory) ⊎ Step self.old.plan request.now (refused r) self.old.plan) }
     {
-        self.look_at();
+        self.read_for_proof();
         let at = self.moment_of(request)?;
         let (alloc, clock) = (self.alloc, self.clock);
         let (loaded, prepared) = prepare_in(alloc, self.loaded.take(), clock, request, at);

@@ -4,7 +4,7 @@ ghost use Rattle.plan_core.specs.Prepares.{prepared_by};
 
 use plan_basics::{Moment, OpKey};
 use plan_records::Changes;
-use request_outcomes::{Next, Outcome};
+use request_outcomes::{AcceptedOutcome, NextPlan};
 use std::marker::Model;
 
 /// A request that is accepted, with all that it takes: its moment, what it makes of the plan that it was prepared for, the
@@ -13,7 +13,7 @@ use std::marker::Model;
 #[derive(Drop)]
 pub struct Prepared {
     pub(crate) clock: Moment,
-    pub(crate) next: Next,
+    pub(crate) next: NextPlan,
     pub(crate) named: Vec<OpKey>,
     pub(crate) changes: Changes,
     pub(crate) work: u64,
@@ -31,7 +31,7 @@ impl Model for Prepared {
 
 impl Prepared {
     // What a request leads to at its moment, for which this many records were looked at.
-    pub(crate) fn of(clock: Moment, outcome: Outcome, work: u64) -> Prepared
+    pub(crate) fn of(clock: Moment, outcome: AcceptedOutcome, work: u64) -> Prepared
         ensures { result ≡ prepared_by clock outcome work }
     {
         Prepared {

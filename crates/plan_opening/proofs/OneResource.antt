@@ -56,15 +56,15 @@ module _ (P : Contents) (held : Held) (are : AreHeldIn P held) (r : Name) (items
 
   module _ (sorted : AreInOrder items) (compatible : HasCompatibleHolders P r) where
     -- another holder beside this one
-    beside : (k : ℕ) (d : Holder) → 1 < length items → k < length items → (j : ℕ) × (j < length items) × (holding_of (get_or items k d) ≢ holding_of (get_or items j d))
-    beside k d many within = elim (cases_eq k 0) [
+    uncounted : (k : ℕ) (d : Holder) → 1 < length items → k < length items → (j : ℕ) × (j < length items) × (holding_of (get_or items k d) ≢ holding_of (get_or items j d))
+    uncounted k d many within = elim (cases_eq k 0) [
       | inl first ↦ (1, many, apart items sorted k 1 d (omega (arith, first)) many)
       | inr later ↦ (0, omega (arith, many), λ same. apart items sorted 0 k d (omega (arith, later)) within (sym same))
     ]
 
     shares : 1 < length items → (k : ℕ) (d : Holder) → k < length items → (get_or items k d).claim.mode ≡ Shared
     shares many k d within =
-        let other = beside k d many within in
+        let other = uncounted k d many within in
         let first = told (get_or items k d) (Contains-get_or items k d within) in
         let second = told (get_or items other.0 d) (Contains-get_or items other.0 d other.1) in
         compatible (get_or items k d).operation (get_or items other.0 d).operation _ _

@@ -12,8 +12,9 @@ pub use lists::are_these;
 pub use opening::{OpenedPlan, plan_of_rows};
 pub use plan_drafts::DraftParts;
 pub use plan_rows::{
-    Beside, LoadedPlan, Parts, Reported, RowSource, Shown, SoundContents, WorkedOut, briefs_of,
-    chosen_with, given_out_of, holdings_in, occurrence_status_with, worked_out,
+    CountedRecords, DerivedAfresh, LoadedParts, LoadedPlan, ReportedOperation, RowSource,
+    SoundContents, UncountedContents, chosen_with, derived_afresh, given_out_of, holdings_in,
+    occurrence_status_with, summaries_of,
 };
 pub use restoring::{contents_of_rows, meta_of_rows};
 pub use soundness::judged;

@@ -6,9 +6,9 @@ ghost use Rattle.plan_model.specs.Contents.{Contents};
 ghost use Rattle.plan_model.specs.Plan.{Plan, plan_held};
 ghost use Rattle.plan_model.specs.Valid.{IsSound};
 ghost use Rattle.plan_drafts.specs.PlanGraphs.{IsGraphFor};
-ghost use Rattle.plan_rows.specs.derived_figures.specs.Frames.{IsFrameOf};
+ghost use Rattle.plan_rows.specs.derived_figures.specs.DerivedRefs.{AreDerivedOf};
 ghost use Rattle.plan_opening.specs.Opening.{AreContentsOf, AreOfNoPlan, IsPlanOf};
-ghost use Rattle.plan_rows.specs.derived_figures.specs.Afresh.{IsWorkedOut};
+ghost use Rattle.plan_rows.specs.derived_figures.specs.Afresh.{IsDerivedAfresh};
 ghost use Rattle.plan_records.specs.Rows.{AreRows};
 
 use super::first::are_first;
@@ -19,8 +19,8 @@ use plan_basics::{Moment, Refusal};
 use plan_model::Graph;
 use plan_records::PlanRow;
 use plan_rows::{
-    Frame, LoadedPlan, Shown, SoundContents, ValidContents, WorkedOut, columns_of, graph_for,
-    rows_of, worked_out,
+    CountedRecords, DerivedAfresh, DerivedRefs, LoadedPlan, SoundContents, ValidContents,
+    columns_of, derived_afresh, graph_for, rows_of,
 };
 use record_permits::granted;
 use std::alloc::Global;
@@ -49,17 +49,17 @@ fn sound_contents_of(alloc: Global, rows: &[PlanRow]) -> Result<Option<SoundCont
 fn are_rows_of(
     alloc: Global,
     clock: Moment,
-    shown: &mut Shown,
-    frame: Frame<'_>,
+    shown: &mut CountedRecords,
+    derived: DerivedRefs<'_>,
     rows: &[PlanRow],
 ) -> Result<bool, Refusal>
-    requires frame { IsFrameOf shown.old.contents frame }
+    requires derived { AreDerivedOf shown.old.contents derived }
     ensures told { IfOk result (λ told. IsTrue told ↔ AreRows (plan_held clock (Some shown.old.contents)) rows.now) }
     ensures contents { shown.new.contents ≡ shown.old.contents }
     ensures refused { IfErr result (λ r. r ≡ Refusal.Memory) }
 {
-    shown.beside().are_sound();
-    let all = rows_of(alloc, shown, columns_of(frame), clock)?;
+    shown.uncounted().are_sound();
+    let all = rows_of(alloc, shown, columns_of(derived), clock)?;
     Ok(are_these(alloc, rows, &all)?)
 }
 
@@ -68,25 +68,25 @@ fn are_rows_of(
 fn kept_with_rows(
     alloc: Global,
     clock: Moment,
-    shown: &mut Shown,
+    shown: &mut CountedRecords,
     graph: &Graph,
     rows: &[PlanRow],
-) -> Result<Option<WorkedOut>, Refusal>
+) -> Result<Option<DerivedAfresh>, Refusal>
     requires graph { IsGraphFor shown.old.contents graph.now }
-    ensures found { IfOk result (λ found. MatchOption found (¬ AreRows (plan_held clock (Some shown.old.contents)) rows.now) (λ w. AreRows (plan_held clock (Some shown.old.contents)) rows.now × IsWorkedOut shown.old.contents w)) }
+    ensures found { IfOk result (λ found. MatchOption found (¬ AreRows (plan_held clock (Some shown.old.contents)) rows.now) (λ w. AreRows (plan_held clock (Some shown.old.contents)) rows.now × IsDerivedAfresh shown.old.contents w)) }
     ensures contents { shown.new.contents ≡ shown.old.contents }
     ensures refused { IfErr result (λ r. r ≡ Refusal.Memory) }
 {
-    let worked_out = worked_out(alloc, shown, graph)?;
-    let frame = Frame {
+    let derived_afresh = derived_afresh(alloc, shown, graph)?;
+    let derived = DerivedRefs {
         graph,
-        latest: &worked_out.latest,
-        figures: &worked_out.figures,
+        latest: &derived_afresh.latest,
+        figures: &derived_afresh.figures,
     };
-    if !are_rows_of(alloc, clock, shown, frame, rows)? {
+    if !are_rows_of(alloc, clock, shown, derived, rows)? {
         return Ok(None);
     }
-    Ok(Some(worked_out))
+    Ok(Some(derived_afresh))
 }
 
 // The loaded plan of these contents, if these are all of its rows at this clock. No look is counted. The error is always `Memory`.
@@ -101,7 +101,7 @@ fn loaded_with_rows(
 {
     let graph = graph_for(alloc, contents.valid())?;
     let permit = granted();
-    let mut shown = Shown::of(contents, &permit);
+    let mut shown = CountedRecords::of(contents, &permit);
     let kept = kept_with_rows(alloc, clock, &mut shown, &graph, rows);
     let (contents, _looks) = shown.into_contents(&permit);
     match kept? {

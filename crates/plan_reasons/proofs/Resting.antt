@@ -13,7 +13,7 @@ use Rattle.plan_model.specs.Contents.{Contents, HasAttribute, Operation}
 use Rattle.plan_model.specs.Starts.{MayStart}
 use Rattle.plan_model.specs.Status.{HasStatus}
 use Rattle.plan_core.specs.derived_figures.specs.Reports.{IsReported}
-use Rattle.plan_core.specs.derived_figures.specs.declared.frame.Reported.{Reported}
+use Rattle.plan_core.specs.derived_figures.specs.declared.outlines.ReportedOperation.{ReportedOperation}
 use Rattle.plan_reasons.specs.Parts.{IsOfKind}
 use Rattle.plan_reasons.specs.Places.{goes_on_from}
 use Rattle.plan_reasons.specs.Reasons.{IsReasonOf, needs_start}
@@ -42,7 +42,7 @@ rests status.Interrupted attribute.StartAndCompletion e = absurd (true≢false e
 rests status.Interrupted a e = ((λ is. (cc)), refl, (λ both. let h = both.1 in (cc)))
 rests s a e = ((λ is. (cc)), refl, (λ both. let h = both.0 in (cc)))
 
-module _ (P : Contents) (o : OpKey) (m : ℕ) (x : Reported) (is : IsReported P o x) where
+module _ (P : Contents) (o : OpKey) (m : ℕ) (x : ReportedOperation) (is : IsReported P o x) where
   module _ (goes_on : goes_on_from x.status x.attribute ≡ true) where
     not_at_rest : (s : Status) → IsReasonOf P o x.operation.now m (reason.AtRest s) → ⊥
     not_at_rest s h = elim (goes x.status x.attribute goes_on) [

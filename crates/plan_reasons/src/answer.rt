@@ -13,13 +13,14 @@ ghost use Rattle.plan_core.specs.derived_figures.specs.Reports.{IsReported};
 use super::busy::{all_held, all_unavailable};
 use super::lacking::{closed, lacks};
 use super::lists::{note, note_all};
-use super::predecessors::{look_at, roots, waits};
+use super::predecessors::{read_for_proof, roots, waits};
 use super::reasons::{Reason, Supply, Unsatisfied};
 use super::scarce::all_scarce;
 use super::single::{at_rest, held, needs_start, too_early};
 use plan_basics::{Moment, OpKey, Refusal};
 use plan_core::{
-    Beside, LoadedPlan, Reported, SoundContents, briefs_of, given_out_of, holdings_in,
+    LoadedPlan, ReportedOperation, SoundContents, UncountedContents, given_out_of, holdings_in,
+    summaries_of,
 };
 use plan_model::OperationRecord;
 use status_rules::Status;
@@ -48,8 +49,8 @@ fn taken_at(
     ensures { IfOk result (λ taken. taken ≡ given_out contents.now operation.now.workstation) }
 {
     let place = contents.workstation_place_of(operation);
-    let briefs = briefs_of(alloc, contents.valid())?;
-    let given = given_out_of(alloc, &Beside::of(contents), &briefs)?;
+    let summaries = summaries_of(alloc, contents.valid())?;
+    let given = given_out_of(alloc, &UncountedContents::of(contents), &summaries)?;
     Ok(given[place])
 }
 
@@ -68,7 +69,7 @@ fn note_start(
     reasons: &mut Vec<Reason>,
     contents: &SoundContents,
     key: &OpKey,
-    reported: &Reported<'_>,
+    reported: &ReportedOperation<'_>,
     at: Moment,
 ) -> Result<(), Refusal>
     requires { IsReported contents.now key.now reported.now }
@@ -117,7 +118,7 @@ fn reasons_at(
     ensures reasons { IfOk result (λ found. AreReasons loaded.now key.now at found.items) }
     ensures refused { IfErr result (λ r. r ≡ Refusal.Memory) }
 {
-    look_at(loaded);
+    read_for_proof(loaded);
     let reported = loaded.reported_at(place);
     let mut reasons = Vec::new(alloc);
     note(&mut reasons, at_rest(&reported))?;

@@ -68,7 +68,7 @@ fn reasons_to_wait(alloc: Global, found: &[Unsatisfied]) -> Result<Vec<Reason>, 
 }
 
 /// The plan is looked at for the proof alone, which learns that what it holds is sound.
-pub fn look_at(loaded: &LoadedPlan)
+pub fn read_for_proof(loaded: &LoadedPlan)
     ensures { IsSound loaded.now }
 {
     let _ = loaded.contents().valid();
@@ -81,7 +81,7 @@ fn waited_for(alloc: Global, loaded: &LoadedPlan, place: usize) -> Result<Vec<Re
     ensures reasons { IfOk result (λ found. (o : OpKey) (op : Operation) (m : ℕ) → slice_get (entries loaded.now.operations) place ≡ Some (o, op) → AreOfKind loaded.now o op m 1 found.items) }
     ensures refused { IfErr result (λ r. r ≡ Refusal.Memory) }
 {
-    look_at(loaded);
+    read_for_proof(loaded);
     let flags = unsatisfied_flags(alloc, loaded.statuses())?;
     let places = flagged_preds(alloc, loaded.graph(), &flags, place)?;
     let found = unsatisfied_at_each(alloc, loaded, &places)?;
@@ -94,7 +94,7 @@ pub fn waits(alloc: Global, loaded: &LoadedPlan, place: usize) -> Result<Vec<Rea
     ensures reasons { IfOk result (λ found. (o : OpKey) (op : Operation) (m : ℕ) → slice_get (entries loaded.now.operations) place ≡ Some (o, op) → AreOfKind loaded.now o op m 1 found.items) }
     ensures refused { IfErr result (λ r. r ≡ Refusal.Memory) }
 {
-    look_at(loaded);
+    read_for_proof(loaded);
     match loaded.status_at(place) {
         Status::Waiting => waited_for(alloc, loaded, place),
         _ => Ok(Vec::new(alloc)),
@@ -108,7 +108,7 @@ fn beginnings(alloc: Global, loaded: &LoadedPlan, place: usize) -> Result<Vec<Un
     ensures roots { IfOk result (λ found. (o : OpKey) → IsAt loaded.now place o → AreRoots loaded.now o found.items) }
     ensures refused { IfErr result (λ r. r ≡ Refusal.Memory) }
 {
-    look_at(loaded);
+    read_for_proof(loaded);
     let flags = unsatisfied_flags(alloc, loaded.statuses())?;
     let places = sources(alloc, loaded.graph(), &flags, place)?;
     Ok(unsatisfied_at_each(alloc, loaded, &places)?)
@@ -122,7 +122,7 @@ pub fn roots(alloc: Global, loaded: &LoadedPlan, place: usize) -> Result<Vec<Uns
     ensures roots { IfOk result (λ found. (o : OpKey) → IsAt loaded.now place o → AreRoots loaded.now o found.items) }
     ensures refused { IfErr result (λ r. r ≡ Refusal.Memory) }
 {
-    look_at(loaded);
+    read_for_proof(loaded);
     match loaded.status_at(place) {
         Status::Waiting => beginnings(alloc, loaded, place),
         _ => Ok(Vec::new(alloc)),

@@ -12,7 +12,7 @@ ghost use Rattle.status_rules.specs.Table.{marked_status};
 
 use super::reasons::Reason;
 use plan_basics::{Attr, Moment};
-use plan_core::Reported;
+use plan_core::ReportedOperation;
 use plan_model::OperationRecord;
 use status_rules::{Mark, Status};
 
@@ -28,7 +28,7 @@ fn goes_on_from(status: Status, attribute: Attr) -> bool
 }
 
 /// The reason that its status is none from which it goes on.
-pub fn at_rest(reported: &Reported<'_>) -> Option<Reason>
+pub fn at_rest(reported: &ReportedOperation<'_>) -> Option<Reason>
     ensures { (P : Contents) → IsValid P → (o : OpKey) (m : ℕ) → IsReported P o reported.now → IsOfKind P o reported.now.operation.now m 0 result }
 {
     if goes_on_from(reported.status, reported.attribute) {
@@ -68,7 +68,7 @@ fn is_unmarked(mark: &Mark) -> bool
 }
 
 /// Whether an operation goes on by a start, with a server and its resources.
-pub fn needs_start(reported: &Reported<'_>) -> bool
+pub fn needs_start(reported: &ReportedOperation<'_>) -> bool
     ensures { (P : Contents) (o : OpKey) → IsReported P o reported.now → result ≡ needs_start P reported.now.operation.now }
 {
     let known = matches!(

@@ -16,7 +16,7 @@ use Rattle.plan_records.specs.declared.PlanRow.TheVariants as row
 use Rattle.plan_rows.proofs.NoRows.{none_ascend}
 use Rattle.plan_rows.specs.Shown.{IsShownIfAny, plan_shown}
 use Rattle.plan_rows.specs.Tables.{IsRowBelow}
-use Rattle.plan_rows.specs.declared.shown.RowSource.{RowSource}
+use Rattle.plan_rows.specs.declared.row_sources.RowSource.{RowSource}
 use Rattle.row_differences.proofs.Joined.{described}
 use Rattle.row_differences.specs.Changes.{AreRowChanges}
 use Rattle.workstations.specs.Workstations.{IsWorkstation, Workstation}

@@ -11,10 +11,10 @@ use Rattle.plan_rows.proofs.PairedLists.{paired_length}
 use Rattle.plan_rows.specs.Notes.{AreNotes, IsNotedAt, is_operation, operations_noted}
 use Rattle.plan_rows.specs.Rows.{keyed_operations, rows_of}
 use Rattle.plan_rows.specs.Tables.{AreChangesBelow}
-use Rattle.plan_rows.specs.declared.notes.ChangeBeside.{ChangeBeside}
+use Rattle.plan_rows.specs.declared.notes.FacilityChange.{FacilityChange}
 use Rattle.plan_rows.specs.declared.notes.Notes.{Notes}
-use Rattle.plan_rows.specs.declared.shown.RowSource.{RowSource}
-use Rattle.derived_figures.specs.counted_records.specs.States.{ShownState}
+use Rattle.plan_rows.specs.declared.row_sources.RowSource.{RowSource}
+use Rattle.derived_figures.specs.counted_records.specs.States.{CountedState}
 
 -- one more counts once at most
 pub counted_pushed : {X : Type 0} (p : X → Bool) (xs : List X) (x : X) → count_by p (xs ++ x ∷ []) ≤ count_by p xs + 1
@@ -36,7 +36,7 @@ not_operation (row.Operation q) lt = absurd (omega (arith, lt))
 not_operation r lt = refl
 
 -- they note as many rows of operations as were touched
-pub noted_count : (s : RowSource) (b : ChangeBeside) (touched : List ℕ) (notes : Notes) → AreNotes s b touched notes → operations_noted notes ≡ length touched
+pub noted_count : (s : RowSource) (b : FacilityChange) (touched : List ℕ) (notes : Notes) → AreNotes s b touched notes → operations_noted notes ≡ length touched
 noted_count s b touched notes h = sym (paired_length (IsNotedAt (rows_of (keyed_operations s))) touched notes.operations.items h.operations)
 
 -- no row of an operation is in the tables before that of operations
@@ -44,7 +44,7 @@ pub no_operation_below : (P Q : Plan) (c : Changes) → AreChangesBelow 5 P Q c 
 no_operation_below P Q c h = none_counted is_operation c.rows.items (λ r has. not_operation r ((h.has_rows r).0 has).0.1)
 
 -- where no look was taken all is as it was
-pub no_look : (old new : ShownState) → new.contents ≡ old.contents → old.looks ≤ new.looks → new.looks ≤ old.looks → new ≡ old
+pub no_look : (old new : CountedState) → new.contents ≡ old.contents → old.looks ≤ new.looks → new.looks ≤ old.looks → new ≡ old
 no_look old new contents fewest most = let looks : new.looks ≡ old.looks = omega (arith, fewest, most) in λ i. record { contents = contents i; looks = looks i }
 
 -- more looks count, where the count isn't full

@@ -10,7 +10,7 @@ use Rattle.plan_records.specs.declared.PlanRow.TheVariants as row
 use Rattle.plan_rows.proofs.NoRows.{none_ascend}
 use Rattle.plan_rows.specs.Shown.{plan_shown}
 use Rattle.plan_rows.specs.Tables.{IsRowOf}
-use Rattle.plan_rows.specs.declared.shown.RowSource.{RowSource}
+use Rattle.plan_rows.specs.declared.row_sources.RowSource.{RowSource}
 use Rattle.row_differences.specs.Changes.{AreAt, AreRowChanges, HasRowOf}
 
 pub loaded_where_shown : (clock : ℕ) (shown : Option RowSource) → (plan_shown clock shown).loaded ≡ is_some shown

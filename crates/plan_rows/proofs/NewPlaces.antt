@@ -24,7 +24,7 @@ use Rattle.plan_model.specs.Contents.{Contents, Operation, nothing}
 use Rattle.plan_rows.proofs.NoRows.{none_kept}
 use Rattle.plan_rows.specs.Kept.{AreNewPlaces, IsNewAt, KeepsRecords}
 use Rattle.plan_rows.specs.Shown.{contents_shown, source_if_any}
-use Rattle.plan_rows.specs.declared.shown.TableSource.{TableSource}
+use Rattle.plan_rows.specs.declared.row_sources.TableSource.{TableSource}
 use Rattle.row_differences.proofs.Picked.{picked_from, picks_ascend}
 use Rattle.row_differences.specs.Changes.{AreAt}
 use Rattle.row_differences.specs.Differences.{AreDifferences}

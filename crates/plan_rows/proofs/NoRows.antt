@@ -5,7 +5,7 @@ use Rattle.std.specs.FinMap.{empty, entries}
 use Rattle.std.specs.List.Sorted.{IsStrictlySortedBy}
 use Rattle.plan_model.proofs.Entries.{rows_in_order}
 use Rattle.plan_rows.specs.Shown.{contents_shown, plan_shown}
-use Rattle.plan_rows.specs.declared.shown.RowSource.{RowSource}
+use Rattle.plan_rows.specs.declared.row_sources.RowSource.{RowSource}
 
 pub none_ascend : {K : Type 0} (R : K → K → Ordering) → IsStrictlySortedBy R []
 unfolding IsStrictlySortedBy

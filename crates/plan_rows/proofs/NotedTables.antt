@@ -18,14 +18,14 @@ use Rattle.plan_rows.proofs.DifferentRows.{IsToldTo, all_differences, told_diffe
 use Rattle.plan_rows.proofs.OneMore.{one_more_table, table_changes}
 use Rattle.plan_rows.proofs.PairedLists.{paired_at, paired_length}
 use Rattle.plan_rows.proofs.ShownPlaces.{rows_differ}
-use Rattle.plan_rows.specs.Notes.{AreNotedAt, AreWithin, IsNotedAt, IsNotedBeside, NotesBeside}
+use Rattle.plan_rows.specs.Notes.{AreNotedAt, AreWithin, IsNotedAt, AreNotedFacilities, NotesFacilities}
 use Rattle.plan_rows.specs.Tables.{AreChangesBelow, AreRowsOf}
-use Rattle.plan_rows.specs.Touched.{AreDifferentAmong, KeepsQuantities, StaysBeside}
+use Rattle.plan_rows.specs.Touched.{AreDifferentAmong, KeepsQuantities, IsFacilityChange}
 use Rattle.plan_rows.specs.declared.noted_rows.NotedRow.{NotedRow}
-use Rattle.plan_rows.specs.declared.notes.NotedBeside.{NotedBeside}
-use Rattle.plan_rows.specs.declared.notes.NotedBeside.TheVariants as noted
-use Rattle.plan_rows.specs.declared.notes.ChangeBeside.{ChangeBeside}
-use Rattle.plan_rows.specs.declared.notes.ChangeBeside.TheVariants as beside
+use Rattle.plan_rows.specs.declared.notes.NotedFacilities.{NotedFacilities}
+use Rattle.plan_rows.specs.declared.notes.NotedFacilities.TheVariants as noted
+use Rattle.plan_rows.specs.declared.notes.FacilityChange.{FacilityChange}
+use Rattle.plan_rows.specs.declared.notes.FacilityChange.TheVariants as facilities
 use Rattle.row_differences.specs.Changes.{AreAt}
 
 -- each is noted at one of the places
@@ -68,25 +68,25 @@ module _ {K : Type 0} (S : K → K → Ordering) (name : K → RowKey) (in_order
       different [] more [] (all_differences total before after same up olds news (λ i j. slice_get olds i ≡ slice_get news j) (λ i j one. (λ h. h, λ h. h)) places different within elsewhere are) at refl)
 
 -- what is noted beside operations is all that may differ there
-pub all_beside : (P Q : Contents) (b : ChangeBeside) (n : NotedBeside) → StaysBeside b P Q → IsNotedBeside Q b n → NotesBeside P Q n
-all_beside P Q beside.Nothing noted.Nothing stays is = stays
-all_beside P Q beside.Nothing (noted.Resources rows) stays is = absurd is
-all_beside P Q beside.Nothing (noted.Intervals rows) stays is = absurd is
-all_beside P Q beside.Resources noted.Nothing stays is = absurd is
-all_beside P Q beside.Resources (noted.Resources rows) stays is = (stays.0, stays.1, stays.2, is)
-all_beside P Q beside.Resources (noted.Intervals rows) stays is = absurd is
-all_beside P Q beside.Workstations noted.Nothing stays is = absurd is
-all_beside P Q beside.Workstations (noted.Resources rows) stays is = absurd is
-all_beside P Q beside.Workstations (noted.Intervals rows) stays is = (stays.0, stays.1, is)
+pub all_facilities : (P Q : Contents) (b : FacilityChange) (n : NotedFacilities) → IsFacilityChange b P Q → AreNotedFacilities Q b n → NotesFacilities P Q n
+all_facilities P Q facilities.Nothing noted.Nothing stays is = stays
+all_facilities P Q facilities.Nothing (noted.Resources rows) stays is = absurd is
+all_facilities P Q facilities.Nothing (noted.Intervals rows) stays is = absurd is
+all_facilities P Q facilities.Resources noted.Nothing stays is = absurd is
+all_facilities P Q facilities.Resources (noted.Resources rows) stays is = (stays.0, stays.1, stays.2, is)
+all_facilities P Q facilities.Resources (noted.Intervals rows) stays is = absurd is
+all_facilities P Q facilities.Workstations noted.Nothing stays is = absurd is
+all_facilities P Q facilities.Workstations (noted.Resources rows) stays is = absurd is
+all_facilities P Q facilities.Workstations (noted.Intervals rows) stays is = (stays.0, stays.1, is)
 
 -- no quantity differs
-pub quantities_keep : (P Q : Contents) (b : ChangeBeside) → StaysBeside b P Q → KeepsQuantities P Q
-quantities_keep P Q beside.Nothing stays r = ap (λ (resources : Resources). option_map (λ s. s.quantity) (get resources r)) stays.1
-quantities_keep P Q beside.Resources stays r = stays.2 r
-quantities_keep P Q beside.Workstations stays r = ap (λ (resources : Resources). option_map (λ s. s.quantity) (get resources r)) stays.0
+pub quantities_keep : (P Q : Contents) (b : FacilityChange) → IsFacilityChange b P Q → KeepsQuantities P Q
+quantities_keep P Q facilities.Nothing stays r = ap (λ (resources : Resources). option_map (λ s. s.quantity) (get resources r)) stays.1
+quantities_keep P Q facilities.Resources stays r = stays.2 r
+quantities_keep P Q facilities.Workstations stays r = ap (λ (resources : Resources). option_map (λ s. s.quantity) (get resources r)) stays.0
 
 -- no pair differs
-pub pairs_stay : (P Q : Contents) (b : ChangeBeside) → StaysBeside b P Q → Q.pairs ≡ P.pairs
-pairs_stay P Q beside.Nothing stays = stays.2
-pairs_stay P Q beside.Resources stays = stays.1
-pairs_stay P Q beside.Workstations stays = stays.1
+pub pairs_stay : (P Q : Contents) (b : FacilityChange) → IsFacilityChange b P Q → Q.pairs ≡ P.pairs
+pairs_stay P Q facilities.Nothing stays = stays.2
+pairs_stay P Q facilities.Resources stays = stays.1
+pairs_stay P Q facilities.Workstations stays = stays.1

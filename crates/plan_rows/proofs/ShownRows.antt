@@ -29,7 +29,7 @@ use Rattle.plan_rows.proofs.SideBySide.{from_viewed, from_zipped, keys_viewed, l
 use Rattle.plan_rows.specs.Rows.{if_shown, keyed_occurrence, keyed_occurrences, keyed_operation, keyed_operations, operation_row_of, rows_of}
 use Rattle.plan_rows.specs.Shown.{contents_shown, IsShown, IsShownIfAny, Known, known_of, plan_shown}
 use Rattle.plan_rows.specs.Tables.{AreRowsOf, IsRowOf}
-use Rattle.plan_rows.specs.declared.shown.RowSource.{RowSource}
+use Rattle.plan_rows.specs.declared.row_sources.RowSource.{RowSource}
 use Rattle.derived_figures.specs.plan_status.proofs.OfOccurrences.{status_counted}
 use Rattle.derived_figures.specs.plan_status.specs.Standings.{IsTally}
 use Rattle.derived_figures.specs.plan_status.specs.declared.standings.Standing.{Standing}

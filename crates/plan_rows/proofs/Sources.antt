@@ -9,8 +9,8 @@ use Rattle.plan_model.specs.Contents.{Contents, nothing}
 use Rattle.plan_rows.specs.Kept.{KeepsRecords}
 use Rattle.plan_rows.specs.Rows.{if_shown}
 use Rattle.plan_rows.specs.Shown.{IsShown, IsShownIfAny, contents_shown, source_if_any, source_of}
-use Rattle.plan_rows.specs.declared.shown.RowSource.{RowSource}
-use Rattle.plan_rows.specs.declared.shown.TableSource.{TableSource}
+use Rattle.plan_rows.specs.declared.row_sources.RowSource.{RowSource}
+use Rattle.plan_rows.specs.declared.row_sources.TableSource.{TableSource}
 
 -- where there is a row, a plan is loaded
 pub some_source : {K : Type 0} (keyed : RowSource → List (K × PlanRow)) (s : Option TableSource) (i : ℕ) → i < length (keys_of (if_shown keyed (source_if_any s))) → is_some s ≡ true
@@ -21,7 +21,7 @@ some_source keyed (Some t) i lt = refl
 pub is_source : (s : Option TableSource) (t : TableSource) → s ≡ Some t → IsShownIfAny (source_if_any s) → IsShown (source_of t)
 is_source s t is shown = subst (λ (s : Option TableSource). IsShownIfAny (source_if_any s)) is shown
 
-pub source_keeps : (s : Option TableSource) (t : TableSource) (Q : Contents) → s ≡ Some t → KeepsRecords (contents_shown (source_if_any s)) Q → KeepsRecords t.beside.contents.now Q
+pub source_keeps : (s : Option TableSource) (t : TableSource) (Q : Contents) → s ≡ Some t → KeepsRecords (contents_shown (source_if_any s)) Q → KeepsRecords t.uncounted.contents.now Q
 source_keeps s t Q is keeps = subst (λ (s : Option TableSource). KeepsRecords (contents_shown (source_if_any s)) Q) is keeps
 
 -- nothing is kept by any plan

@@ -19,7 +19,7 @@ use Rattle.plan_rows.proofs.ShownRows.{occurrence_keys_kept, operation_keys_kept
 use Rattle.plan_rows.specs.Rows.{if_shown, keyed_occurrence, keyed_occurrences, keyed_operation, keyed_operations, rows_of}
 use Rattle.plan_rows.specs.Shown.{IsShownIfAny, contents_shown}
 use Rattle.plan_rows.specs.Touched.{AreOccurrencesOf, AreTouched, known_shown, tallies_shown}
-use Rattle.plan_rows.specs.declared.shown.RowSource.{RowSource}
+use Rattle.plan_rows.specs.declared.row_sources.RowSource.{RowSource}
 
 -- the rows that are shown are made of what is kept, side by side
 operations_beside : (shown : Option RowSource) → if_shown keyed_operations shown ≡ map keyed_operation (zip (entries (contents_shown shown).operations) (known_shown shown))
@@ -55,10 +55,10 @@ module _ (before after : Option RowSource) (was : IsShownIfAny before) (is : IsS
 
   pub operations_elsewhere : (i : ℕ) → ¬ Contains touched i → slice_get (rows_of (if_shown keyed_operations after)) i ≡ slice_get (rows_of (if_shown keyed_operations before)) i
   operations_elsewhere i not =
-      let beside = zipped_alike (entries (contents_shown after).operations) (entries (contents_shown before).operations) (known_shown after) (known_shown before) i
+      let uncounted = zipped_alike (entries (contents_shown after).operations) (entries (contents_shown before).operations) (known_shown after) (known_shown before) i
       (same_elsewhere (contents_shown before) (contents_shown after) touched h.moved i not) (h.known i not)
       in
-      let keyed = mapped_alike keyed_operation (zip (entries (contents_shown after).operations) (known_shown after)) (zip (entries (contents_shown before).operations) (known_shown before)) i beside in
+      let keyed = mapped_alike keyed_operation (zip (entries (contents_shown after).operations) (known_shown after)) (zip (entries (contents_shown before).operations) (known_shown before)) i uncounted in
       mapped_alike (λ (x : OpKey × PlanRow). x.1) (if_shown keyed_operations after) (if_shown keyed_operations before) i
       (ap (λ rows. slice_get rows i) (operations_beside after) ∙ (keyed ∙ ap (λ rows. slice_get rows i) (sym (operations_beside before))))
 
@@ -74,9 +74,9 @@ module _ (before after : Option RowSource) (was : IsShownIfAny before) (is : IsS
 
     pub occurrences_elsewhere : (p : ℕ) → ¬ Contains places p → slice_get (rows_of (if_shown keyed_occurrences after)) p ≡ slice_get (rows_of (if_shown keyed_occurrences before)) p
     occurrences_elsewhere p not =
-        let beside = zipped_alike (entries (contents_shown after).occurrences) (entries (contents_shown before).occurrences) (tallies_shown after) (tallies_shown before) p
+        let uncounted = zipped_alike (entries (contents_shown after).occurrences) (entries (contents_shown before).occurrences) (tallies_shown after) (tallies_shown before) p
         (ap (λ kept. slice_get (entries kept) p) h.moved.moved.occurrences) (h.tallies p (λ one. not ((are.all p).1 one)))
         in
-        let keyed = mapped_alike keyed_occurrence (zip (entries (contents_shown after).occurrences) (tallies_shown after)) (zip (entries (contents_shown before).occurrences) (tallies_shown before)) p beside in
+        let keyed = mapped_alike keyed_occurrence (zip (entries (contents_shown after).occurrences) (tallies_shown after)) (zip (entries (contents_shown before).occurrences) (tallies_shown before)) p uncounted in
         mapped_alike (λ (x : OccKey × PlanRow). x.1) (if_shown keyed_occurrences after) (if_shown keyed_occurrences before) p
         (ap (λ rows. slice_get rows p) (occurrences_beside after) ∙ (keyed ∙ ap (λ rows. slice_get rows p) (sym (occurrences_beside before))))

@@ -24,7 +24,7 @@ use Rattle.plan_rows.specs.Rows.{workstation_row, resource_row}
 use Rattle.plan_rows.specs.Shown.{contents_shown, plan_shown}
 use Rattle.plan_rows.specs.Tables.{AreChangesBelow, AreRowsOf, IsRowOf}
 use Rattle.plan_rows.specs.Touched.{AreMovedAmong, KeepsQuantities}
-use Rattle.plan_rows.specs.declared.shown.RowSource.{RowSource}
+use Rattle.plan_rows.specs.declared.row_sources.RowSource.{RowSource}
 use Rattle.row_differences.specs.Changes.{AreRowChanges}
 use Rattle.workstations.specs.Timetables.{NamedWorkstation}
 use Rattle.workstations.specs.Workstations.{Workstation}

@@ -9,14 +9,14 @@ use Rattle.plan_records.specs.declared.PlanRow.TheVariants as row
 use Rattle.plan_rows.specs.Rows.{all_intervals, keyed_occurrences, keyed_operations, rows_of}
 use Rattle.plan_rows.specs.Shown.{IsShown, contents_shown}
 use Rattle.plan_rows.specs.Tables.{AddsChanges}
-use Rattle.plan_rows.specs.Touched.{AreOccurrencesOf, AreTouched, KeepsQuantities, StaysBeside}
+use Rattle.plan_rows.specs.Touched.{AreOccurrencesOf, AreTouched, KeepsQuantities, IsFacilityChange}
 use Rattle.plan_rows.specs.declared.noted_rows.NotedRow.{NotedRow}
-use Rattle.plan_rows.specs.declared.notes.NotedBeside.{NotedBeside}
-use Rattle.plan_rows.specs.declared.notes.NotedBeside.TheVariants as noted
+use Rattle.plan_rows.specs.declared.notes.NotedFacilities.{NotedFacilities}
+use Rattle.plan_rows.specs.declared.notes.NotedFacilities.TheVariants as noted
 use Rattle.plan_rows.specs.declared.notes.Notes.{Notes}
-use Rattle.plan_rows.specs.declared.shown.RowSource.{RowSource}
-use Rattle.plan_rows.specs.declared.notes.ChangeBeside.{ChangeBeside}
-use Rattle.plan_rows.specs.declared.notes.ChangeBeside.TheVariants as beside
+use Rattle.plan_rows.specs.declared.row_sources.RowSource.{RowSource}
+use Rattle.plan_rows.specs.declared.notes.FacilityChange.{FacilityChange}
+use Rattle.plan_rows.specs.declared.notes.FacilityChange.TheVariants as facilities
 
 -- it notes the row that stands at i among these
 abbrev pub IsNotedAt : List PlanRow → ℕ → NotedRow → Type 0
@@ -43,19 +43,19 @@ AddsNotedOperations s notes r c d = (after : RowSource) (touched : List ℕ)
     → AreNotedAt (rows_of (keyed_operations after)) touched notes → AddsChanges 5 6 (Some s) (Some after) r c d
 
 -- it has the table that may differ beside operations, if one may
-abbrev pub IsNotedBeside : Contents → ChangeBeside → NotedBeside → Type 0
-IsNotedBeside Q beside.Nothing noted.Nothing = Unit {0}
-IsNotedBeside Q beside.Resources (noted.Resources rows) = rows.items ≡ entries Q.resources
-IsNotedBeside Q beside.Workstations (noted.Intervals rows) = rows.items ≡ all_intervals (entries Q.workstations)
-IsNotedBeside Q b n = ⊥
+abbrev pub AreNotedFacilities : Contents → FacilityChange → NotedFacilities → Type 0
+AreNotedFacilities Q facilities.Nothing noted.Nothing = Unit {0}
+AreNotedFacilities Q facilities.Resources (noted.Resources rows) = rows.items ≡ entries Q.resources
+AreNotedFacilities Q facilities.Workstations (noted.Intervals rows) = rows.items ≡ all_intervals (entries Q.workstations)
+AreNotedFacilities Q b n = ⊥
 
 -- they note the rows of these operations, of their occurrences, and what is beside
-pub record AreNotes (s : RowSource) (b : ChangeBeside) (touched : List ℕ) (notes : Notes) : Type 0 where
+pub record AreNotes (s : RowSource) (b : FacilityChange) (touched : List ℕ) (notes : Notes) : Type 0 where
   pub operations : AreNotedAt (rows_of (keyed_operations s)) touched notes.operations.items
   pub places : List ℕ
   pub of_operations : AreOccurrencesOf s.contents.now touched places
   pub occurrences : AreNotedAt (rows_of (keyed_occurrences s)) places notes.occurrences.items
-  pub beside : IsNotedBeside s.contents.now b notes.beside
+  pub facilities : AreNotedFacilities s.contents.now b notes.facilities
 
 -- how many rows of operations they note
 abbrev pub operations_noted : Notes → ℕ
@@ -71,14 +71,14 @@ pub record IsNotedStep (before : Option RowSource) (Q : Contents) (notes : Notes
   pub after : RowSource
   pub shown : IsShown after
   pub holds : after.contents.now ≡ Q
-  pub beside : ChangeBeside
+  pub facilities : FacilityChange
   pub touched : List ℕ
-  pub stays : StaysBeside beside (contents_shown before) after.contents.now
+  pub stays : IsFacilityChange facilities (contents_shown before) after.contents.now
   pub among : AreTouched before (Some after) touched
-  pub noted : AreNotes after beside touched notes
+  pub noted : AreNotes after facilities touched notes
 
 -- beside operations no more differs from P to Q than the table that it has, whose rows are those of Q
-abbrev pub NotesBeside : Contents → Contents → NotedBeside → Type 0
-NotesBeside P Q noted.Nothing = (Q.workstations ≡ P.workstations) × (Q.resources ≡ P.resources) × (Q.pairs ≡ P.pairs)
-NotesBeside P Q (noted.Resources rows) = (Q.workstations ≡ P.workstations) × (Q.pairs ≡ P.pairs) × KeepsQuantities P Q × (rows.items ≡ entries Q.resources)
-NotesBeside P Q (noted.Intervals rows) = (Q.resources ≡ P.resources) × (Q.pairs ≡ P.pairs) × (rows.items ≡ all_intervals (entries Q.workstations))
+abbrev pub NotesFacilities : Contents → Contents → NotedFacilities → Type 0
+NotesFacilities P Q noted.Nothing = (Q.workstations ≡ P.workstations) × (Q.resources ≡ P.resources) × (Q.pairs ≡ P.pairs)
+NotesFacilities P Q (noted.Resources rows) = (Q.workstations ≡ P.workstations) × (Q.pairs ≡ P.pairs) × KeepsQuantities P Q × (rows.items ≡ entries Q.resources)
+NotesFacilities P Q (noted.Intervals rows) = (Q.resources ≡ P.resources) × (Q.pairs ≡ P.pairs) × (rows.items ≡ all_intervals (entries Q.workstations))

@@ -14,7 +14,7 @@ use Rattle.plan_records.specs.declared.OperationRow.{OperationRow}
 use Rattle.plan_records.specs.declared.PlanRow.{PlanRow}
 use Rattle.plan_records.specs.declared.PlanRow.TheVariants as row
 use Rattle.plan_rows.specs.Shown.{Known, known_of}
-use Rattle.plan_rows.specs.declared.shown.RowSource.{RowSource}
+use Rattle.plan_rows.specs.declared.row_sources.RowSource.{RowSource}
 use Rattle.special_resources.specs.Needs.{need_of}
 use Rattle.special_resources.specs.declared.Mode.{Mode}
 use Rattle.special_resources.specs.declared.Mode.TheVariants.{Exclusive, Shared}

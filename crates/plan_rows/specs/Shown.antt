@@ -10,8 +10,8 @@ use Rattle.derived_figures.specs.plan_status.specs.Standings.{AreStandings, AreT
 use Rattle.derived_figures.specs.plan_status.specs.declared.standings.Standing.{Standing}
 use Rattle.status_rules.specs.declared.Status.{Status}
 use Rattle.plan_rows.specs.declared.columns.SourceColumns.{SourceColumns}
-use Rattle.plan_rows.specs.declared.shown.RowSource.{RowSource}
-use Rattle.plan_rows.specs.declared.shown.TableSource.{TableSource}
+use Rattle.plan_rows.specs.declared.row_sources.RowSource.{RowSource}
+use Rattle.plan_rows.specs.declared.row_sources.TableSource.{TableSource}
 
 -- its contents are sound, and beside them is what is read off them
 pub record IsShown (s : RowSource) : Type 0 where
@@ -27,7 +27,7 @@ shown_with P c = record { contents = record { ref_ptr = (0, 0); now = P }; stand
 
 -- what the tables of a plan are told by, as what is shown of the plan
 abbrev pub source_of : TableSource → RowSource
-source_of t = shown_with t.beside.contents.now t.columns
+source_of t = shown_with t.uncounted.contents.now t.columns
 
 -- so where there is one
 abbrev pub source_if_any : Option TableSource → Option RowSource

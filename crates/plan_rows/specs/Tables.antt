@@ -6,7 +6,7 @@ use Rattle.plan_records.specs.Rows.{IsRow, key_of, row_cmp, table_of}
 use Rattle.plan_records.specs.declared.Changes.{Changes}
 use Rattle.plan_records.specs.declared.PlanRow.{PlanRow}
 use Rattle.plan_rows.specs.Shown.{plan_shown}
-use Rattle.plan_rows.specs.declared.shown.RowSource.{RowSource}
+use Rattle.plan_rows.specs.declared.row_sources.RowSource.{RowSource}
 use Rattle.row_differences.specs.Changes.{AreRowChanges}
 
 -- a row of the table of this number

@@ -9,9 +9,9 @@ use Rattle.plan_model.specs.Contents.{Contents, Operation}
 use Rattle.plan_model.specs.declared.Occurrence.{Occurrence}
 use Rattle.plan_model.specs.Moves.{IsRemarkedAt}
 use Rattle.plan_rows.specs.Shown.{contents_shown, Known, known_of}
-use Rattle.plan_rows.specs.declared.shown.RowSource.{RowSource}
-use Rattle.plan_rows.specs.declared.notes.ChangeBeside.{ChangeBeside}
-use Rattle.plan_rows.specs.declared.notes.ChangeBeside.TheVariants as beside
+use Rattle.plan_rows.specs.declared.row_sources.RowSource.{RowSource}
+use Rattle.plan_rows.specs.declared.notes.FacilityChange.{FacilityChange}
+use Rattle.plan_rows.specs.declared.notes.FacilityChange.TheVariants as facilities
 use Rattle.status_rules.specs.declared.Counts.{Counts}
 
 -- what is known of each operation that is shown
@@ -60,10 +60,10 @@ abbrev pub KeepsQuantities : Contents → Contents → Type 0
 KeepsQuantities P Q = (r : Name) → option_map (λ s. s.quantity) (get Q.resources r) ≡ option_map (λ s. s.quantity) (get P.resources r)
 
 -- what else of the contents stays
-abbrev pub StaysBeside : ChangeBeside → Contents → Contents → Type 0
-StaysBeside beside.Nothing P Q = (Q.workstations ≡ P.workstations) × (Q.resources ≡ P.resources) × (Q.pairs ≡ P.pairs)
-StaysBeside beside.Resources P Q = (Q.workstations ≡ P.workstations) × (Q.pairs ≡ P.pairs) × KeepsQuantities P Q
-StaysBeside beside.Workstations P Q = (Q.resources ≡ P.resources) × (Q.pairs ≡ P.pairs)
+abbrev pub IsFacilityChange : FacilityChange → Contents → Contents → Type 0
+IsFacilityChange facilities.Nothing P Q = (Q.workstations ≡ P.workstations) × (Q.resources ≡ P.resources) × (Q.pairs ≡ P.pairs)
+IsFacilityChange facilities.Resources P Q = (Q.workstations ≡ P.workstations) × (Q.pairs ≡ P.pairs) × KeepsQuantities P Q
+IsFacilityChange facilities.Workstations P Q = (Q.resources ≡ P.resources) × (Q.pairs ≡ P.pairs)
 
 -- of these places those at which the rows before and after differ, in order
 pub record AreDifferentAmong {X : Type 0} (olds news : List X) (places different : List ℕ) : Type 0 where

@@ -17,9 +17,9 @@ use super::needs::{new_needs, push_amounts, push_needs};
 use super::occurrences::push_occurrences;
 use super::operations::push_operations;
 use super::quantities::push_quantities;
-use super::shown::{PlanBefore, TableSource};
+use super::row_sources::{PlanBefore, TableSource};
 use super::workplaces::push_workstations;
-use derived_figures::Shown;
+use derived_figures::CountedRecords;
 use plan_basics::{Moment, OpKey};
 use plan_records::{Changes, PlanRow};
 use special_resources::Need;
@@ -50,8 +50,8 @@ fn push_links(
     needs: &[(OpKey, Need)],
     changes: &mut Changes,
 ) -> Result<(), AllocError>
-    requires kept { KeepsRecords (contents_shown (source_if_any before)) after.beside.contents.now }
-    requires needs { AreNewNeeds (contents_shown (source_if_any before)) after.beside.contents.now needs.now }
+    requires kept { KeepsRecords (contents_shown (source_if_any before)) after.uncounted.contents.now }
+    requires needs { AreNewNeeds (contents_shown (source_if_any before)) after.uncounted.contents.now needs.now }
     ensures { AddsChanges 6 10 (source_if_any before.entry) (Some (source_of after.entry)) result changes.old changes.new }
 {
     push_dependencies(alloc, before, Some(after), changes)?;
@@ -65,7 +65,7 @@ fn push_links(
 pub fn changes_between(
     alloc: Global,
     before: &PlanBefore<'_>,
-    shown: &mut Shown,
+    shown: &mut CountedRecords,
     columns: SourceColumns<'_>,
     clock: Moment,
 ) -> Result<Changes, AllocError>
@@ -79,13 +79,13 @@ pub fn changes_between(
 {
     let old = before.loaded;
     let mut changes = meta_changes(alloc, before, clock)?;
-    let beside = shown.beside();
-    push_stations(alloc, old, TableSource { beside, columns }, &mut changes)?;
+    let uncounted = shown.uncounted();
+    push_stations(alloc, old, TableSource { uncounted, columns }, &mut changes)?;
     push_occurrences(alloc, old, shown, columns, &mut changes)?;
     push_operations(alloc, old, shown, columns, &mut changes)?;
     let needs = new_needs(alloc, old, shown)?;
-    let beside = shown.beside();
-    let new = TableSource { beside, columns };
+    let uncounted = shown.uncounted();
+    let new = TableSource { uncounted, columns };
     push_links(alloc, old, new, &needs, &mut changes)?;
     Ok(changes)
 }
@@ -93,7 +93,7 @@ pub fn changes_between(
 /// All rows of what is shown as a loaded plan at this clock, in key order: two looks at each operation.
 pub fn rows_of(
     alloc: Global,
-    shown: &mut Shown,
+    shown: &mut CountedRecords,
     columns: SourceColumns<'_>,
     clock: Moment,
 ) -> Result<Vec<PlanRow>, AllocError>

@@ -1,10 +1,10 @@
 // What is read off a plan's contents.
 ghost use Rattle.plan_model.specs.Contents.{Contents};
 ghost use Rattle.plan_model.specs.Valid.{IsSound};
-ghost use Rattle.derived_figures.specs.Frames.{IsFrameOf};
+ghost use Rattle.derived_figures.specs.DerivedRefs.{AreDerivedOf};
 ghost use Rattle.plan_rows.specs.Shown.{IsShown, shown_with};
 
-use derived_figures::{Frame, Standing};
+use derived_figures::{DerivedRefs, Standing};
 use plan_model::Latest;
 use status_rules::{Counts, Status};
 
@@ -18,14 +18,14 @@ pub struct SourceColumns<'a> {
 }
 
 /// What is known of each operation and of each occurrence, of what is kept of a plan.
-pub fn columns_of<'a>(frame: Frame<'a>) -> SourceColumns<'a>
-    ensures { (P : Contents) → IsSound P → IsFrameOf P frame.entry → IsShown (shown_with P result) }
+pub fn columns_of<'a>(derived: DerivedRefs<'a>) -> SourceColumns<'a>
+    ensures { (P : Contents) → IsSound P → AreDerivedOf P derived.entry → IsShown (shown_with P result) }
 {
-    let figures = frame.figures;
+    let figures = derived.figures;
     SourceColumns {
         standings: &figures.standings,
         statuses: &figures.statuses,
         tallies: &figures.tallies,
-        latest: frame.latest,
+        latest: derived.latest,
     }
 }

@@ -6,9 +6,9 @@ ghost use Rattle.plan_rows.specs.Rows.{dependency_row};
 ghost use Rattle.plan_rows.specs.Shown.{source_if_any};
 ghost use Rattle.plan_rows.specs.Tables.{AddsChanges};
 
-use super::kept::pairs_of;
-use super::shown::TableSource;
+use super::row_sources::TableSource;
 use super::tables::{PlanTable, push_changes};
+use super::uncounted_rows::pairs_of;
 use plan_basics::OpKey;
 use plan_records::{Changes, PlanRow, RowKey};
 use row_differences::TwoTables;

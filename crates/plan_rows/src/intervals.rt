@@ -9,11 +9,11 @@ ghost use Rattle.plan_rows.specs.Alike.{interval_alike, interval_key_cmp, interv
 ghost use Rattle.plan_rows.specs.Rows.{all_intervals, interval_row, intervals_within, under_both};
 ghost use Rattle.plan_rows.specs.Shown.{IsShownIfAny, contents_shown, source_if_any};
 ghost use Rattle.plan_rows.specs.Tables.{AddsChanges};
-ghost use Rattle.plan_rows.specs.declared.shown.RowSource.{RowSource as RowSourceValue};
+ghost use Rattle.plan_rows.specs.declared.row_sources.RowSource.{RowSource as RowSourceValue};
 
-use super::kept::workstations_of;
-use super::shown::TableSource;
+use super::row_sources::TableSource;
 use super::tables::{PlanTable, push_changes};
+use super::uncounted_rows::workstations_of;
 use plan_basics::{Interval, Moment, WsName};
 use plan_records::{Changes, PlanRow, RowKey};
 use row_differences::KeyedRows;

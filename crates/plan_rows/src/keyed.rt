@@ -10,9 +10,9 @@ ghost use Rattle.plan_rows.specs.Rows.{resource_row};
 ghost use Rattle.plan_rows.specs.Shown.{source_if_any};
 ghost use Rattle.plan_rows.specs.Tables.{AddsChanges, AreChangesBelow};
 
-use super::kept::resources_of;
-use super::shown::TableSource;
+use super::row_sources::TableSource;
 use super::tables::{PlanTable, push_changes};
+use super::uncounted_rows::resources_of;
 use plan_basics::ResName;
 use plan_model::Stock;
 use plan_records::{Changes, PlanRow, RowKey};

@@ -6,7 +6,6 @@ mod changing;
 mod columns;
 mod dependencies;
 mod intervals;
-mod kept;
 mod keyed;
 mod meta;
 mod needs;
@@ -17,9 +16,10 @@ mod occurrence_places;
 mod occurrences;
 mod operations;
 mod quantities;
-mod shown;
+mod row_sources;
 mod shown_tables;
 mod tables;
+mod uncounted_rows;
 mod workplaces;
 mod written;
 
@@ -28,16 +28,17 @@ pub use changing::{changes_between, rows_of};
 pub use columns::{SourceColumns, columns_of};
 pub use dependencies::push_dependencies;
 pub use derived_figures::{
-    Beside, Frame, LoadedPlan, Parts, Reported, Shown, SoundContents, Standing, ValidContents,
-    WorkedOut, attribute_of, briefs_of, chosen_with, given_out_of, graph_for, holdings_in,
-    occurrence_status_with, standings_of, worked_out,
+    CountedRecords, DerivedAfresh, DerivedRefs, LoadedParts, LoadedPlan, ReportedOperation,
+    SoundContents, Standing, UncountedContents, ValidContents, attribute_of, chosen_with,
+    derived_afresh, given_out_of, graph_for, holdings_in, occurrence_status_with, standings_of,
+    summaries_of,
 };
 pub use intervals::push_intervals;
 pub use keyed::push_resources;
 pub use needs::{new_needs, push_amounts, push_needs};
-pub use notes::{ChangeBeside, Notes, noted_changes, notes_of};
+pub use notes::{FacilityChange, Notes, noted_changes, notes_of};
 pub use occurrences::push_occurrences;
 pub use operations::push_operations;
 pub use quantities::push_quantities;
-pub use shown::{PlanBefore, RowSource, TableSource};
+pub use row_sources::{PlanBefore, RowSource, TableSource};
 pub use workplaces::push_workstations;

@@ -4,9 +4,9 @@ ghost use Rattle.plan_model.specs.Plan.{Plan};
 ghost use Rattle.plan_records.specs.declared.PlanRow.TheVariants as row;
 ghost use Rattle.plan_rows.specs.Shown.{plan_shown, source_if_any};
 ghost use Rattle.plan_rows.specs.Tables.{AreChangesBelow};
-ghost use Rattle.plan_rows.specs.declared.shown.RowSource.{RowSource};
+ghost use Rattle.plan_rows.specs.declared.row_sources.RowSource.{RowSource};
 
-use super::shown::{PlanBefore, TableSource};
+use super::row_sources::{PlanBefore, TableSource};
 use plan_basics::Moment;
 use plan_records::{Changes, PlanRow};
 use row_differences::push_made;

@@ -10,9 +10,9 @@ ghost use Rattle.plan_rows.specs.Shown.{IsShownIfAny, contents_shown, source_if_
 ghost use Rattle.plan_rows.specs.Tables.{AreChangesBelow};
 
 use super::new_places::new_places;
-use super::shown::TableSource;
+use super::row_sources::TableSource;
 use super::written::push_written;
-use derived_figures::Shown;
+use derived_figures::CountedRecords;
 use plan_basics::OpKey;
 use plan_model::OperationRecord;
 use plan_records::{Changes, PlanRow};
@@ -56,7 +56,7 @@ fn push_needs_of(op: OpKey, needs: &[Need], all: &mut Vec<(OpKey, Need)>) -> Res
 
 // Adds the needs of the operation at a place: a look.
 fn push_needs_at(
-    shown: &mut Shown,
+    shown: &mut CountedRecords,
     place: usize,
     all: &mut Vec<(OpKey, Need)>,
 ) -> Result<(), AllocError>
@@ -75,7 +75,7 @@ fn push_needs_at(
 pub fn new_needs(
     alloc: Global,
     before: Option<TableSource<'_>>,
-    shown: &mut Shown,
+    shown: &mut CountedRecords,
 ) -> Result<Vec<(OpKey, Need)>, AllocError>
     requires before { IsShownIfAny (source_if_any before) }
     requires kept { KeepsRecords (contents_shown (source_if_any before)) shown.old.contents }
@@ -84,7 +84,7 @@ pub fn new_needs(
     ensures fewest { shown.old.looks ≤ shown.new.looks }
     ensures most { shown.new.looks + length (entries (contents_shown (source_if_any before.entry)).operations) ≤ shown.old.looks + length (entries shown.old.contents.operations) }
 {
-    let places = new_places(alloc, before, &shown.beside())?;
+    let places = new_places(alloc, before, &shown.uncounted())?;
     let mut needs = Vec::new(alloc);
     for place in &places {
         push_needs_at(shown, *place, &mut needs)?;

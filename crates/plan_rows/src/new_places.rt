@@ -4,8 +4,8 @@ ghost use Rattle.std.specs.FinMap.{entries, keys};
 ghost use Rattle.plan_rows.specs.Kept.{AreNewPlaces, KeepsRecords};
 ghost use Rattle.plan_rows.specs.Shown.{contents_shown, source_if_any};
 
-use super::shown::TableSource;
-use derived_figures::Beside;
+use super::row_sources::TableSource;
+use derived_figures::UncountedContents;
 use plan_basics::OpKey;
 use row_differences::{TwoTables, differences};
 use std::alloc::{AllocError, Global};
@@ -16,17 +16,17 @@ fn operation_count(source: Option<TableSource<'_>>) -> usize
     ensures { result ≡ length (keys (contents_shown (source_if_any source.entry)).operations) }
 {
     match source {
-        Some(source) => source.beside.operation_count(),
+        Some(source) => source.uncounted.operation_count(),
         None => 0,
     }
 }
 
 // The key of the operation at a place.
-fn key_at(beside: &Beside<'_>, place: usize) -> OpKey
-    requires { place < length (keys beside.now.contents.now.operations) }
-    ensures { slice_get (keys beside.now.contents.now.operations) place ≡ Some result }
+fn key_at(uncounted: &UncountedContents<'_>, place: usize) -> OpKey
+    requires { place < length (keys uncounted.now.contents.now.operations) }
+    ensures { slice_get (keys uncounted.now.contents.now.operations) place ≡ Some result }
 {
-    *beside.operation_key(place)
+    *uncounted.operation_key(place)
 }
 
 // The key of the operation at a place, of a plan that is loaded since it has one.
@@ -34,14 +34,14 @@ fn known_key_at(source: Option<TableSource<'_>>, place: usize) -> OpKey
     requires { place < length (keys (contents_shown (source_if_any source)).operations) }
     ensures { slice_get (keys (contents_shown (source_if_any source.entry)).operations) place ≡ Some result }
 {
-    key_at(&source.unwrap().beside, place)
+    key_at(&source.unwrap().uncounted, place)
 }
 
 /// The operations of a plan before and after, by their keys alone.
 #[derive(Clone, Copy)]
 struct OperationKeys<'a, 'b> {
     before: Option<TableSource<'a>>,
-    after: Beside<'b>,
+    after: UncountedContents<'b>,
 }
 
 impl<'a, 'b> TwoTables for OperationKeys<'a, 'b> {
@@ -74,7 +74,7 @@ impl<'a, 'b> TwoTables for OperationKeys<'a, 'b> {
 pub fn new_places(
     alloc: Global,
     before: Option<TableSource<'_>>,
-    after: &Beside<'_>,
+    after: &UncountedContents<'_>,
 ) -> Result<Vec<usize>, AllocError>
     requires { KeepsRecords (contents_shown (source_if_any before)) after.now.contents.now }
     ensures places { IfOk result (λ places. AreNewPlaces (contents_shown (source_if_any before.entry)) after.now.contents.now places.items) }

@@ -12,7 +12,7 @@ ghost use Rattle.row_differences.specs.Changes.{AreAt};
 
 use super::columns::SourceColumns;
 use super::shown_tables::Tabled;
-use derived_figures::Shown;
+use derived_figures::CountedRecords;
 use plan_records::PlanRow;
 use std::alloc::{AllocError, Global};
 
@@ -29,7 +29,7 @@ pub trait Noted: Tabled {
     ghost looks: { ℕ };
 
     /// The row at an index.
-    fn seen(shown: &mut Shown, columns: SourceColumns<'_>, place: usize) -> PlanRow
+    fn seen(shown: &mut CountedRecords, columns: SourceColumns<'_>, place: usize) -> PlanRow
         requires shown { IsShown (shown_with shown.old.contents columns) }
         requires within { place < length (keys_of (Self.keyed (shown_with shown.old.contents columns))) }
         ensures row { slice_get (rows_of (Self.keyed (shown_with shown.old.contents columns.entry))) place ≡ Some result }
@@ -42,7 +42,7 @@ pub trait Noted: Tabled {
 /// Notes the rows at these places.
 pub fn note_rows<T: Noted>(
     alloc: Global,
-    shown: &mut Shown,
+    shown: &mut CountedRecords,
     columns: SourceColumns<'_>,
     places: &[usize],
 ) -> Result<Vec<NotedRow>, AllocError>
@@ -64,7 +64,7 @@ pub fn note_rows<T: Noted>(
 
 /// Adds the rows that are noted and aren't as they are in a table.
 pub fn push_noted<T: Noted>(
-    shown: &mut Shown,
+    shown: &mut CountedRecords,
     columns: SourceColumns<'_>,
     notes: &[NotedRow],
     rows: &mut Vec<PlanRow>,

@@ -6,10 +6,10 @@ ghost use Rattle.std.specs.Ordering.{nat_cmp};
 ghost use Rattle.plan_model.specs.Contents.{Contents};
 ghost use Rattle.plan_model.specs.Plan.{plan_held};
 ghost use Rattle.plan_records.specs.Rows.{AreChanges};
-ghost use Rattle.plan_rows.specs.Notes.{AreNotes, IsNotedBeside, IsNotedStep, NotesBeside, is_operation, operations_noted};
+ghost use Rattle.plan_rows.specs.Notes.{AreNotes, AreNotedFacilities, IsNotedStep, NotesFacilities, is_operation, operations_noted};
 ghost use Rattle.plan_rows.specs.Shown.{IsShown, shown_with};
 ghost use Rattle.plan_rows.specs.Tables.{AddsChanges};
-ghost use Rattle.plan_rows.specs.declared.shown.RowSource.{RowSource as RowSourceValue};
+ghost use Rattle.plan_rows.specs.declared.row_sources.RowSource.{RowSource as RowSourceValue};
 
 use super::columns::SourceColumns;
 use super::intervals::{intervals_of, push_noted_intervals};
@@ -18,7 +18,7 @@ use super::meta::push_meta;
 use super::noted_rows::NotedRow;
 use super::occurrences::{note_occurrences, push_noted_occurrences};
 use super::operations::{note_operations, push_noted_operations};
-use derived_figures::Shown;
+use derived_figures::CountedRecords;
 use plan_basics::{Interval, Moment, ResName, WsName};
 use plan_model::Stock;
 use plan_records::Changes;
@@ -26,7 +26,7 @@ use std::alloc::{AllocError, Global};
 
 /// What may differ beside operations.
 #[derive(Clone, Copy, Debug)]
-pub enum ChangeBeside {
+pub enum FacilityChange {
     Nothing,
     /// Which special resources are available.
     Resources,
@@ -36,7 +36,7 @@ pub enum ChangeBeside {
 
 /// What is noted beside operations and occurrences.
 #[derive(Drop)]
-pub enum NotedBeside {
+pub enum NotedFacilities {
     Nothing,
     /// All special resources by name, each with whether it is available and how much of it there is.
     Resources(Vec<(ResName, Stock)>),
@@ -49,25 +49,25 @@ pub enum NotedBeside {
 pub struct Notes {
     operations: Vec<NotedRow>,
     occurrences: Vec<NotedRow>,
-    beside: NotedBeside,
+    facilities: NotedFacilities,
 }
 
 // Notes what may differ beside operations.
-fn note_beside(
+fn note_facilities(
     alloc: Global,
-    shown: &Shown,
-    beside: ChangeBeside,
-) -> Result<NotedBeside, AllocError>
-    ensures { IfOk result (IsNotedBeside shown.now.contents beside) }
+    shown: &CountedRecords,
+    facilities: FacilityChange,
+) -> Result<NotedFacilities, AllocError>
+    ensures { IfOk result (AreNotedFacilities shown.now.contents facilities) }
 {
-    let kept = shown.beside();
-    match beside {
-        ChangeBeside::Nothing => Ok(NotedBeside::Nothing),
-        ChangeBeside::Resources => Ok(NotedBeside::Resources(Vec::from_slice(
+    let kept = shown.uncounted();
+    match facilities {
+        FacilityChange::Nothing => Ok(NotedFacilities::Nothing),
+        FacilityChange::Resources => Ok(NotedFacilities::Resources(Vec::from_slice(
             alloc,
             kept.resources(),
         )?)),
-        ChangeBeside::Workstations => Ok(NotedBeside::Intervals(intervals_of(
+        FacilityChange::Workstations => Ok(NotedFacilities::Intervals(intervals_of(
             alloc,
             kept.workstations(),
         )?)),
@@ -78,15 +78,15 @@ fn note_beside(
 /// what may differ beside them. It takes a look at each of these operations.
 pub fn notes_of(
     alloc: Global,
-    shown: &mut Shown,
+    shown: &mut CountedRecords,
     columns: SourceColumns<'_>,
-    beside: ChangeBeside,
+    facilities: FacilityChange,
     touched: &[usize],
 ) -> Result<Notes, AllocError>
     requires shown { IsShown (shown_with shown.old.contents columns) }
     requires ascend { IsStrictlySortedBy nat_cmp touched.now }
     requires within { (i : ℕ) → Contains touched.now i → i < length (entries shown.old.contents.operations) }
-    ensures notes { IfOk result (AreNotes (shown_with shown.old.contents columns.entry) beside touched.now) }
+    ensures notes { IfOk result (AreNotes (shown_with shown.old.contents columns.entry) facilities touched.now) }
     ensures noted { IfOk result (λ n. operations_noted n ≡ length touched.now) }
     ensures contents { shown.new.contents ≡ shown.old.contents }
     ensures fewest { shown.old.looks ≤ shown.new.looks }
@@ -95,34 +95,34 @@ pub fn notes_of(
 {
     let operations = note_operations(alloc, shown, columns, touched)?;
     let occurrences = note_occurrences(alloc, shown, columns, touched)?;
-    let beside = note_beside(alloc, shown, beside)?;
+    let facilities = note_facilities(alloc, shown, facilities)?;
     Ok(Notes {
         operations,
         occurrences,
-        beside,
+        facilities,
     })
 }
 
 // Adds what changes in the tables of intervals and of special resources.
-fn push_noted_beside(
+fn push_noted_facilities(
     alloc: Global,
-    shown: &Shown,
-    noted: &NotedBeside,
+    shown: &CountedRecords,
+    noted: &NotedFacilities,
     changes: &mut Changes,
 ) -> Result<(), AllocError>
-    requires noted { (after : RowSourceValue) × IsShown after × NotesBeside shown.now.contents after.contents.now noted.now }
-    ensures { (before after : RowSourceValue) → before.contents.now ≡ shown.now.contents → IsShown before → IsShown after → NotesBeside shown.now.contents after.contents.now noted.now → AddsChanges 2 4 (Some before) (Some after) result changes.old changes.new }
+    requires noted { (after : RowSourceValue) × IsShown after × NotesFacilities shown.now.contents after.contents.now noted.now }
+    ensures { (before after : RowSourceValue) → before.contents.now ≡ shown.now.contents → IsShown before → IsShown after → NotesFacilities shown.now.contents after.contents.now noted.now → AddsChanges 2 4 (Some before) (Some after) result changes.old changes.new }
 {
-    let kept = shown.beside();
+    let kept = shown.uncounted();
     match noted {
-        NotedBeside::Nothing => Ok(()),
-        NotedBeside::Resources(rows) => push_noted_resources(
+        NotedFacilities::Nothing => Ok(()),
+        NotedFacilities::Resources(rows) => push_noted_resources(
             alloc,
             kept.resources(),
             rows,
             changes,
         ),
-        NotedBeside::Intervals(rows) => push_noted_intervals(
+        NotedFacilities::Intervals(rows) => push_noted_intervals(
             alloc,
             kept.workstations(),
             rows,
@@ -135,7 +135,7 @@ fn push_noted_beside(
 /// clock. It takes a look for each operation that is noted.
 pub fn noted_changes(
     alloc: Global,
-    shown: &mut Shown,
+    shown: &mut CountedRecords,
     columns: SourceColumns<'_>,
     was: Moment,
     clock: Moment,
@@ -154,7 +154,7 @@ pub fn noted_changes(
         gone: Vec::new(alloc),
     };
     push_meta(true, was, true, clock, &mut changes)?;
-    push_noted_beside(alloc, shown, &notes.beside, &mut changes)?;
+    push_noted_facilities(alloc, shown, &notes.facilities, &mut changes)?;
     push_noted_occurrences(shown, columns, &notes.occurrences, &mut changes)?;
     push_noted_operations(shown, columns, &notes.operations, &mut changes)?;
     Ok(changes)

@@ -5,23 +5,23 @@ ghost use Rattle.std.specs.List.Sorted.{IsStrictlySortedBy};
 ghost use Rattle.std.specs.Ordering.{nat_cmp};
 ghost use Rattle.plan_rows.specs.Touched.{AreOccurrencesOf, BelongsAt};
 
-use derived_figures::Shown;
+use derived_figures::CountedRecords;
 use std::alloc::{AllocError, Global};
 
 // The index of the occurrence to which the operation at an index belongs.
-fn occurrence_place(shown: &Shown, place: usize) -> usize
+fn occurrence_place(shown: &CountedRecords, place: usize) -> usize
     requires { place < length (entries shown.now.contents.operations) }
     ensures { BelongsAt shown.now.contents place result }
 {
-    let beside = shown.beside();
-    let operation = beside.operation_key(place);
-    beside.occurrence_place_of(operation, place)
+    let uncounted = shown.uncounted();
+    let operation = uncounted.operation_key(place);
+    uncounted.occurrence_place_of(operation, place)
 }
 
 /// The indices of the occurrences to which the operations at these indices belong, each once, in order. It looks at no record.
 pub fn occurrence_places(
     alloc: Global,
-    shown: &Shown,
+    shown: &CountedRecords,
     touched: &[usize],
 ) -> Result<Vec<usize>, AllocError>
     requires ascend { IsStrictlySortedBy nat_cmp touched.now }

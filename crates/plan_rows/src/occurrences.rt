@@ -12,14 +12,14 @@ ghost use Rattle.plan_rows.specs.Rows.{keyed_occurrences, rows_of};
 ghost use Rattle.plan_rows.specs.Shown.{IsShown, IsShownIfAny, contents_shown, shown_with, source_if_any, source_of};
 ghost use Rattle.plan_rows.specs.Tables.{AddsChanges};
 ghost use Rattle.plan_rows.specs.Touched.{AreOccurrencesOf};
-ghost use Rattle.plan_rows.specs.declared.shown.RowSource.{RowSource as RowSourceValue};
+ghost use Rattle.plan_rows.specs.declared.row_sources.RowSource.{RowSource as RowSourceValue};
 
 use super::columns::SourceColumns;
 use super::noted_rows::{Noted, NotedRow, note_rows, push_noted};
 use super::occurrence_places::occurrence_places;
-use super::shown::TableSource;
+use super::row_sources::TableSource;
 use super::shown_tables::{Tabled, push_shown};
-use derived_figures::{Shown, occurrence_status_with};
+use derived_figures::{CountedRecords, occurrence_status_with};
 use plan_basics::OccKey;
 use plan_model::Occurrence;
 use plan_records::{Changes, PlanRow, RowKey};
@@ -52,10 +52,14 @@ fn key_of(occurrences: &[(OccKey, Occurrence)], place: usize) -> OccKey
 // The row of the occurrence at an index.
 fn source_row(source: TableSource<'_>, place: usize) -> PlanRow
     requires shown { IsShown (source_of source) }
-    requires within { place < length (entries source.beside.contents.now.occurrences) }
+    requires within { place < length (entries source.uncounted.contents.now.occurrences) }
     ensures { slice_get (rows_of (keyed_occurrences (source_of source.entry))) place ≡ Some result }
 {
-    row_of(source.beside.occurrences(), source.columns.tallies, place)
+    row_of(
+        source.uncounted.occurrences(),
+        source.columns.tallies,
+        place,
+    )
 }
 
 impl Tabled for Occurrence {
@@ -70,11 +74,11 @@ impl Tabled for Occurrence {
     }
 
     fn count(source: TableSource<'_>) -> usize {
-        source.beside.occurrences().len()
+        source.uncounted.occurrences().len()
     }
 
     fn key_at(source: TableSource<'_>, place: usize) -> OccKey {
-        key_of(source.beside.occurrences(), place)
+        key_of(source.uncounted.occurrences(), place)
     }
 
     fn is_alike(before: TableSource<'_>, after: TableSource<'_>, old: usize, new: usize) -> bool {
@@ -90,7 +94,7 @@ impl Tabled for Occurrence {
 pub fn push_occurrences(
     alloc: Global,
     before: Option<TableSource<'_>>,
-    shown: &mut Shown,
+    shown: &mut CountedRecords,
     columns: SourceColumns<'_>,
     changes: &mut Changes,
 ) -> Result<(), AllocError>
@@ -106,15 +110,15 @@ pub fn push_occurrences(
 impl Noted for Occurrence {
     ghost looks = { 0 };
 
-    fn seen(shown: &mut Shown, columns: SourceColumns<'_>, place: usize) -> PlanRow {
-        row_of(shown.beside().occurrences(), columns.tallies, place)
+    fn seen(shown: &mut CountedRecords, columns: SourceColumns<'_>, place: usize) -> PlanRow {
+        row_of(shown.uncounted().occurrences(), columns.tallies, place)
     }
 }
 
 /// Notes the rows of the occurrences to which the operations at these places belong.
 pub fn note_occurrences(
     alloc: Global,
-    shown: &mut Shown,
+    shown: &mut CountedRecords,
     columns: SourceColumns<'_>,
     touched: &[usize],
 ) -> Result<Vec<NotedRow>, AllocError>
@@ -130,7 +134,7 @@ pub fn note_occurrences(
 
 /// Adds what changes in the table of occurrences, from the rows of those that are noted.
 pub fn push_noted_occurrences(
-    shown: &mut Shown,
+    shown: &mut CountedRecords,
     columns: SourceColumns<'_>,
     notes: &[NotedRow],
     changes: &mut Changes,

@@ -12,9 +12,9 @@ ghost use Rattle.plan_rows.specs.Tables.{AddsChanges};
 
 use super::columns::SourceColumns;
 use super::noted_rows::{Noted, NotedRow, note_rows, push_noted};
-use super::shown::TableSource;
+use super::row_sources::TableSource;
 use super::shown_tables::{Tabled, push_shown};
-use derived_figures::{Shown, Standing};
+use derived_figures::{CountedRecords, Standing};
 use plan_basics::OpKey;
 use plan_model::{Latest, OperationRecord};
 use plan_records::{Changes, OperationRow, PlanRow, RowKey};
@@ -128,11 +128,11 @@ impl Tabled for OperationRecord {
     }
 
     fn count(source: TableSource<'_>) -> usize {
-        source.beside.operation_count()
+        source.uncounted.operation_count()
     }
 
     fn key_at(source: TableSource<'_>, place: usize) -> OpKey {
-        *source.beside.operation_key(place)
+        *source.uncounted.operation_key(place)
     }
 
     fn is_alike(before: TableSource<'_>, after: TableSource<'_>, old: usize, new: usize) -> bool {
@@ -149,7 +149,7 @@ impl Tabled for OperationRecord {
 pub fn push_operations(
     alloc: Global,
     before: Option<TableSource<'_>>,
-    shown: &mut Shown,
+    shown: &mut CountedRecords,
     columns: SourceColumns<'_>,
     changes: &mut Changes,
 ) -> Result<(), AllocError>
@@ -167,7 +167,7 @@ pub fn push_operations(
 impl Noted for OperationRecord {
     ghost looks = { 1 };
 
-    fn seen(shown: &mut Shown, columns: SourceColumns<'_>, place: usize) -> PlanRow {
+    fn seen(shown: &mut CountedRecords, columns: SourceColumns<'_>, place: usize) -> PlanRow {
         let seen = shown.see(place);
         row_of(*seen.key, seen.operation, columns, place)
     }
@@ -176,7 +176,7 @@ impl Noted for OperationRecord {
 /// Notes the rows of the operations at these places: a look at each.
 pub fn note_operations(
     alloc: Global,
-    shown: &mut Shown,
+    shown: &mut CountedRecords,
     columns: SourceColumns<'_>,
     touched: &[usize],
 ) -> Result<Vec<NotedRow>, AllocError>
@@ -193,7 +193,7 @@ pub fn note_operations(
 
 /// Adds what changes in the table of operations, from the rows of touched operations that are noted: a look for each.
 pub fn push_noted_operations(
-    shown: &mut Shown,
+    shown: &mut CountedRecords,
     columns: SourceColumns<'_>,
     notes: &[NotedRow],
     changes: &mut Changes,

@@ -9,9 +9,9 @@ ghost use Rattle.plan_rows.specs.Rows.{quantity_row, quantity_written};
 ghost use Rattle.plan_rows.specs.Shown.{source_if_any};
 ghost use Rattle.plan_rows.specs.Tables.{AddsChanges};
 
-use super::kept::resources_of;
-use super::shown::TableSource;
+use super::row_sources::TableSource;
 use super::tables::{PlanTable, push_changes};
+use super::uncounted_rows::resources_of;
 use super::written::push_written;
 use plan_basics::ResName;
 use plan_basics::limits::MOST_QUANTITY;

@@ -10,14 +10,14 @@ ghost use Rattle.plan_rows.specs.Kept.{KeepsRecords};
 ghost use Rattle.plan_rows.specs.Rows.{if_shown, rows_of};
 ghost use Rattle.plan_rows.specs.Shown.{IsShown, IsShownIfAny, contents_shown, plan_shown, shown_with, source_if_any, source_of};
 ghost use Rattle.plan_rows.specs.Tables.{AreChangesBelow, AreRowsOf};
-ghost use Rattle.plan_rows.specs.declared.shown.RowSource.{RowSource as RowSourceValue};
+ghost use Rattle.plan_rows.specs.declared.row_sources.RowSource.{RowSource as RowSourceValue};
 ghost use Rattle.row_differences.specs.Changes.{AreAt};
 ghost use Rattle.row_differences.specs.Differences.{HaveOneKey};
 
 use super::columns::SourceColumns;
 use super::noted_rows::Noted;
-use super::shown::TableSource;
-use derived_figures::Shown;
+use super::row_sources::TableSource;
+use derived_figures::CountedRecords;
 use plan_records::{Changes, PlanRow, RowKey};
 use row_differences::{TwoTables, differences};
 use std::alloc::{AllocError, Global};
@@ -53,7 +53,7 @@ pub trait Tabled: Sized {
     fn is_alike(before: TableSource<'_>, after: TableSource<'_>, old: usize, new: usize) -> bool
         requires before { IsShown (source_of before) }
         requires after { IsShown (source_of after) }
-        requires kept { KeepsRecords before.beside.contents.now after.beside.contents.now }
+        requires kept { KeepsRecords before.uncounted.contents.now after.uncounted.contents.now }
         requires one_key { HaveOneKey (keys_of (keyed (source_of before))) (keys_of (keyed (source_of after))) old new }
         ensures { IsTrue result ↔ (slice_get (rows_of (keyed (source_of before.entry))) old ≡ slice_get (rows_of (keyed (source_of after.entry))) new) };
 
@@ -103,7 +103,7 @@ impl<'a, 'b, T: Tabled> Model for ShownTables<'a, 'b, T> {
 
     ghost view = { λ t. (if_shown T.keyed (source_if_any t.before), T.keyed (source_of t.after)) };
 
-    ghost invariant = { λ t. IsShownIfAny (source_if_any t.before) × IsShown (source_of t.after) × KeepsRecords (contents_shown (source_if_any t.before)) t.after.beside.contents.now };
+    ghost invariant = { λ t. IsShownIfAny (source_if_any t.before) × IsShown (source_of t.after) × KeepsRecords (contents_shown (source_if_any t.before)) t.after.uncounted.contents.now };
 }
 
 impl<'a, 'b, T: Tabled> TwoTables for ShownTables<'a, 'b, T> {
@@ -134,7 +134,7 @@ impl<'a, 'b, T: Tabled> TwoTables for ShownTables<'a, 'b, T> {
 
 // Adds the rows at these places.
 fn push_rows<T: Noted>(
-    shown: &mut Shown,
+    shown: &mut CountedRecords,
     columns: SourceColumns<'_>,
     places: &[usize],
     rows: &mut Vec<PlanRow>,
@@ -173,7 +173,7 @@ fn push_keys<T: Tabled>(
 pub fn push_shown<T: Noted>(
     alloc: Global,
     before: Option<TableSource<'_>>,
-    shown: &mut Shown,
+    shown: &mut CountedRecords,
     columns: SourceColumns<'_>,
     changes: &mut Changes,
 ) -> Result<(), AllocError>
@@ -193,7 +193,7 @@ pub fn push_shown<T: Noted>(
             table: PhantomData::<T>,
             before,
             after: TableSource {
-                beside: shown.beside(),
+                uncounted: shown.uncounted(),
                 columns,
             },
         },

@@ -7,9 +7,9 @@ ghost use Rattle.plan_rows.specs.Rows.{workstation_row};
 ghost use Rattle.plan_rows.specs.Shown.{source_if_any};
 ghost use Rattle.plan_rows.specs.Tables.{AddsChanges};
 
-use super::kept::workstations_of;
-use super::shown::TableSource;
+use super::row_sources::TableSource;
 use super::tables::{PlanTable, push_changes};
+use super::uncounted_rows::workstations_of;
 use plan_basics::WsName;
 use plan_records::{Changes, PlanRow, RowKey};
 use row_differences::TwoTables;

@@ -1,6 +1,6 @@
 pub mod Alike
 pub mod Ascending
-pub mod Briefed
+pub mod Summarized
 pub mod ByStanding
 pub mod CountOneMore
 pub mod Counting

@@ -5,4 +5,4 @@ pub use Rattle.plan_model.specs.workstations
 pub mod Standings
 pub mod Incoming
 pub mod OneMore
-pub mod Briefs
+pub mod Summaries

@@ -4,21 +4,21 @@
 
 ghost use Rattle.plan_status.specs.Standings.{NamingKeepsStandings};
 
-mod briefs;
 mod graphs;
 mod sound;
 mod standings;
 mod statuses;
+mod summaries;
 mod tallies;
 mod valid;
 
-pub use briefs::{Brief, brief_of, briefs_of};
 pub use graphs::graph_for;
 pub use plan_model::{Marking, Occurrence, OperationRecord, Stock, Workstation};
 pub use sound::SoundContents;
 pub use standings::{Standing, attribute_near, attribute_of, standings_of};
 pub use status_rules::Mark;
 pub use statuses::{status_with, statuses_of};
+pub use summaries::{OperationSummary, summaries_of, summary_of};
 pub use tallies::{count_one, occurrence_status_with};
 pub use valid::ValidContents;
 

@@ -5,11 +5,11 @@ ghost use Rattle.plan_basics.specs.declared.Refusal.{Refusal};
 ghost use Rattle.plan_basics.specs.declared.keys.OpKey.{OpKey};
 ghost use Rattle.plan_model.specs.Contents.{Contents, HasAttribute};
 ghost use Rattle.plan_model.specs.Status.{IsSatisfied};
-ghost use Rattle.plan_status.specs.Briefs.{HasBrief, IsBriefedBy};
+ghost use Rattle.plan_status.specs.Summaries.{HasSummary, IsSummarizedBy};
 ghost use Rattle.plan_status.specs.Incoming.{IsNextStanding};
 ghost use Rattle.plan_status.specs.Standings.{IsStanding, AreStandings};
 
-use super::briefs::Brief;
+use super::summaries::OperationSummary;
 use super::valid::ValidContents;
 use plan_basics::{Attr, Refusal};
 use plan_laws::Graph;
@@ -58,10 +58,10 @@ pub fn attribute_near(contents: &ValidContents, operation: &OperationRecord, pla
 }
 
 // Whether an operation is satisfied, by its standing: its status is complete or deleted.
-fn is_satisfied(brief: &Brief, standing: &Standing) -> bool
-    ensures { (P : Contents) (o : OpKey) → HasBrief P o brief.now → IsStanding P o standing.now → Decides result (IsSatisfied P o) }
+fn is_satisfied(summary: &OperationSummary, standing: &Standing) -> bool
+    ensures { (P : Contents) (o : OpKey) → HasSummary P o summary.now → IsStanding P o standing.now → Decides result (IsSatisfied P o) }
 {
-    brief.status(standing).is_satisfied()
+    summary.status(standing).is_satisfied()
 }
 
 // The standing with one more live predecessor.
@@ -88,9 +88,9 @@ fn with_one_more(standing: &Standing, satisfied: bool, nonreporting: bool) -> St
 }
 
 // The standing of an operation, once it comes after this predecessor too.
-fn standing_after(standing: &Standing, predecessor: &Brief, its: &Standing) -> Standing
+fn standing_after(standing: &Standing, predecessor: &OperationSummary, its: &Standing) -> Standing
     requires { standing.now.waiting < 4294967295 }
-    ensures standing { (P : Contents) (pairs : List (OpKey × OpKey)) (pair : OpKey × OpKey) → HasBrief P pair.0 predecessor.now → IsNextStanding P pairs pair its.now standing.now result }
+    ensures standing { (P : Contents) (pairs : List (OpKey × OpKey)) (pair : OpKey × OpKey) → HasSummary P pair.0 predecessor.now → IsNextStanding P pairs pair its.now standing.now result }
     ensures waiting { result.waiting ≤ standing.now.waiting + 1 }
 {
     if !predecessor.mark.is_live() {
@@ -101,21 +101,21 @@ fn standing_after(standing: &Standing, predecessor: &Brief, its: &Standing) -> S
     with_one_more(standing, satisfied, nonreporting)
 }
 
-/// The standing of each operation, in key order, by their briefs and the graph of their plan. The error is always `Memory`.
+/// The standing of each operation, in key order, by their summaries and the graph of their plan. The error is always `Memory`.
 pub fn standings_of(
     alloc: Global,
-    briefs: &[Brief],
+    summaries: &[OperationSummary],
     graph: &Graph,
 ) -> Result<Vec<Standing>, Refusal>
-    requires { (P : Contents) × IsBriefedBy P graph.now briefs.now }
-    ensures standings { IfOk result (λ found. (P : Contents) → IsBriefedBy P graph.now briefs.now → AreStandings P found.items) }
+    requires { (P : Contents) × IsSummarizedBy P graph.now summaries.now }
+    ensures standings { IfOk result (λ found. (P : Contents) → IsSummarizedBy P graph.now summaries.now → AreStandings P found.items) }
     ensures refused { IfErr result (λ r. r ≡ Refusal.Memory) }
 {
-    let mut standings = vec![in alloc; FIRST; briefs.len()]?;
+    let mut standings = vec![in alloc; FIRST; summaries.len()]?;
     for (before, after) in &graph.edges_in_turn()? {
         standings[*after] = standing_after(
             &standings[*after],
-            &briefs[*before],
+            &summaries[*before],
             &standings[*before],
         );
     }

@@ -5,11 +5,11 @@ ghost use Rattle.plan_basics.specs.declared.keys.OpKey.{OpKey};
 ghost use Rattle.plan_model.specs.Contents.{Contents, HasAttribute};
 ghost use Rattle.plan_model.specs.Status.{HasStatus};
 ghost use Rattle.plan_laws.specs.plan_drafts.specs.Places.{AreStatuses};
-ghost use Rattle.plan_status.specs.Briefs.{AreBriefs};
+ghost use Rattle.plan_status.specs.Summaries.{AreSummaries};
 ghost use Rattle.plan_status.specs.Standings.{IsStanding, AreStandings};
 
-use super::briefs::Brief;
 use super::standings::Standing;
+use super::summaries::OperationSummary;
 use plan_basics::Attr;
 use plan_model::OperationRecord;
 use status_rules::{Status, status_of};
@@ -28,18 +28,18 @@ pub fn status_with(operation: &OperationRecord, attribute: Attr, standing: &Stan
     )
 }
 
-/// The status of each operation, in key order, by their briefs and standings.
+/// The status of each operation, in key order, by their summaries and standings.
 pub fn statuses_of(
     alloc: Global,
-    briefs: &[Brief],
+    summaries: &[OperationSummary],
     standings: &[Standing],
 ) -> Result<Vec<Status>, AllocError>
-    requires { length briefs.now ≡ length standings.now }
-    ensures { IfOk result (λ found. (P : Contents) → AreBriefs P briefs.now → AreStandings P standings.now → AreStatuses P found.items) }
+    requires { length summaries.now ≡ length standings.now }
+    ensures { IfOk result (λ found. (P : Contents) → AreSummaries P summaries.now → AreStandings P standings.now → AreStatuses P found.items) }
 {
     let mut statuses = Vec::with_capacity(alloc, standings.len())?;
     for (i, standing) in standings.iter().enumerate() {
-        statuses.push(briefs[i].status(standing))?;
+        statuses.push(summaries[i].status(standing))?;
     }
     Ok(statuses)
 }

@@ -9,11 +9,11 @@ use Rattle.plan_basics.specs.declared.Refusal.TheVariants as refusal
 use Rattle.request_outcomes.proofs.Preparing.{accepted_step}
 use Rattle.request_outcomes.proofs.Refusing.{is_free, is_refused, is_stopped, may_be_accepted}
 use Rattle.request_outcomes.proofs.WholeLooks.{whole_covers}
-use Rattle.request_outcomes.specs.Anew.{AreLooksAnew, IsAnewOf, IsRemadeBy, IsSettledOf, IsToldOf}
+use Rattle.request_outcomes.specs.Rebuilds.{AreRebuildLooks, IsRebuildOf, IsRebuiltBy, AreRebuiltPartsOf, IsToldOf}
 use Rattle.request_outcomes.specs.Looked.{AreAllowed, CoverRows}
 use Rattle.request_outcomes.specs.Requested.{AreMadeBy}
-use Rattle.request_outcomes.specs.declared.anew.Anew.{Anew}
-use Rattle.request_outcomes.specs.declared.anew.Remade.{Remade}
+use Rattle.request_outcomes.specs.declared.rebuilds.Rebuild.{Rebuild}
+use Rattle.request_outcomes.specs.declared.rebuilds.Rebuilt.{Rebuilt}
 use Rattle.plan_records.specs.Acceptance.{IsBadText, IsLoad, MayBeAccepted, MayBeAdded, MayBeDone}
 use Rattle.plan_records.specs.Answer.{refused}
 use Rattle.plan_records.specs.Changes.{LeavesOver, with_added}
@@ -67,29 +67,29 @@ module _ (P : Contents) (clock m : ℕ) (q : Request) (at : q.at ≡ pos m) (onw
     left_made extension = subst (λ (w : What). AreMadeBy P w (with_added left s)) (sym is) (record { is_request = extension; changes = (s, left, refl, leaves, refl) })
 
     -- so what comes of it is what the request leads to
-    module _ (extension : IsExtension s) (a : Anew) where
-      pub extension_anew : OnOk a.remade (NoneRefuses (MayBeAdded left s)) → IfOk a.remade (λ x. IsSettledOf (with_added left s) m a.shown.contents x.settled) → IfOk a.remade (IsToldOf plan m a.shown.contents)
-          → IfErr a.remade (λ r. (r ≡ refusal.Memory) ⊎ IsLeastRefusal (MayBeAdded left s) r) → IsAnewOf plan q m a
-      extension_anew clear settled told stopped = record { remade = good a.remade clear settled told; refused = bad a.remade stopped }
+    module _ (extension : IsExtension s) (a : Rebuild) where
+      pub extension_rebuild : OnOk a.rebuilt (NoneRefuses (MayBeAdded left s)) → IfOk a.rebuilt (λ x. AreRebuiltPartsOf (with_added left s) m a.shown.contents x.rebuilt_parts) → IfOk a.rebuilt (IsToldOf plan m a.shown.contents)
+          → IfErr a.rebuilt (λ r. (r ≡ refusal.Memory) ⊎ IsLeastRefusal (MayBeAdded left s) r) → IsRebuildOf plan q m a
+      extension_rebuild clear rebuilt_parts told stopped = record { rebuilt = good a.rebuilt clear rebuilt_parts told; refused = bad a.rebuilt stopped }
         where
-          good : (r : Result Remade Refusal) → OnOk r (NoneRefuses (MayBeAdded left s)) → IfOk r (λ x. IsSettledOf (with_added left s) m a.shown.contents x.settled) → IfOk r (IsToldOf plan m a.shown.contents) → IfOk r (IsRemadeBy plan q m a.shown.contents)
-          good (Ok x) clear settled told = record {
-            step = accepted_step plan q (left_allows clear) (with_added left s) (left_made extension) m at (plan_held m (Some a.shown.contents)) x.settled.named.items settled.chosen (ap (λ (R : Contents). plan_held m (Some R)) settled.after);
+          good : (r : Result Rebuilt Refusal) → OnOk r (NoneRefuses (MayBeAdded left s)) → IfOk r (λ x. AreRebuiltPartsOf (with_added left s) m a.shown.contents x.rebuilt_parts) → IfOk r (IsToldOf plan m a.shown.contents) → IfOk r (IsRebuiltBy plan q m a.shown.contents)
+          good (Ok x) clear rebuilt_parts told = record {
+            step = accepted_step plan q (left_allows clear) (with_added left s) (left_made extension) m at (plan_held m (Some a.shown.contents)) x.rebuilt_parts.named.items rebuilt_parts.chosen (ap (λ (R : Contents). plan_held m (Some R)) rebuilt_parts.after);
             changes = told;
-            kept = settled.kept;
+            kept = rebuilt_parts.kept;
           }
-          good (Err r) clear settled told = tt
+          good (Err r) clear rebuilt_parts told = tt
 
-          bad : (r : Result Remade Refusal) → IfErr r (λ e. (e ≡ refusal.Memory) ⊎ IsLeastRefusal (MayBeAdded left s) e) → IfErr r (λ e. (e ≡ refusal.Memory) ⊎ Step plan q (refused e) plan)
+          bad : (r : Result Rebuilt Refusal) → IfErr r (λ e. (e ≡ refusal.Memory) ⊎ IsLeastRefusal (MayBeAdded left s) e) → IfErr r (λ e. (e ≡ refusal.Memory) ⊎ Step plan q (refused e) plan)
           bad (Ok x) told = tt
           bad (Err e) (inl memory) = inl memory
           bad (Err e) (inr least) = inr (left_stops e least)
 
       -- three looks at each record that there was, one at each that is left and four at each that there is then are allowed
-      pub extension_looks : IsSound P → (first looks : ℕ) → IsAnewOf plan q m a → looks ≤ 3 * length (entries P.operations) → (18446744073709551615 ≤ looks) ⊎ (first + length (entries P.operations) ≤ looks)
-          → IfOk a.remade (λ x. a.shown.looks ≤ length (entries left.operations) + 4 * length (entries (with_added left s).operations)) → IfOk a.remade (λ x. length (entries a.shown.contents.operations) ≡ length (entries (with_added left s).operations))
-          → AreLooksAnew P q.what a looks
-      extension_looks sound first looks of few least most count = each a.remade refl of.remade most count
+      pub extension_looks : IsSound P → (first looks : ℕ) → IsRebuildOf plan q m a → looks ≤ 3 * length (entries P.operations) → (18446744073709551615 ≤ looks) ⊎ (first + length (entries P.operations) ≤ looks)
+          → IfOk a.rebuilt (λ x. a.shown.looks ≤ length (entries left.operations) + 4 * length (entries (with_added left s).operations)) → IfOk a.rebuilt (λ x. length (entries a.shown.contents.operations) ≡ length (entries (with_added left s).operations))
+          → AreRebuildLooks P q.what a looks
+      extension_looks sound first looks of few least most count = each a.rebuilt refl of.rebuilt most count
         where
           fewer_left : length (entries left.operations) ≤ length (entries P.operations)
           fewer_left =
@@ -100,8 +100,8 @@ module _ (P : Contents) (clock m : ℕ) (q : Request) (at : q.at ≡ pos m) (onw
           allowed some same = subst (λ (w : What). AreAllowed P w a.shown.contents (looks + a.shown.looks)) (sym is) (λ n allowance.
               subst (λ z. looks + a.shown.looks ≤ z) (sym allowance) (omega (arith, few, some, same, fewer_left, len-entries P.operations, len-entries a.shown.contents.operations)))
 
-          each : (r : Result Remade Refusal) → a.remade ≡ r → IfOk r (IsRemadeBy plan q m a.shown.contents) → IfOk r (λ x. a.shown.looks ≤ length (entries left.operations) + 4 * length (entries (with_added left s).operations))
-              → IfOk r (λ x. length (entries a.shown.contents.operations) ≡ length (entries (with_added left s).operations)) → IfOk a.remade (λ x. AreAllowed P q.what a.shown.contents (looks + a.shown.looks) × CoverRows P x.changes.rows.items looks)
-          each (Ok x) same by some count = subst (λ r. IfOk r (λ (x : Remade). AreAllowed P q.what a.shown.contents (looks + a.shown.looks) × CoverRows P x.changes.rows.items looks)) (sym same)
+          each : (r : Result Rebuilt Refusal) → a.rebuilt ≡ r → IfOk r (IsRebuiltBy plan q m a.shown.contents) → IfOk r (λ x. a.shown.looks ≤ length (entries left.operations) + 4 * length (entries (with_added left s).operations))
+              → IfOk r (λ x. length (entries a.shown.contents.operations) ≡ length (entries (with_added left s).operations)) → IfOk a.rebuilt (λ x. AreAllowed P q.what a.shown.contents (looks + a.shown.looks) × CoverRows P x.changes.rows.items looks)
+          each (Ok x) same by some count = subst (λ r. IfOk r (λ (x : Rebuilt). AreAllowed P q.what a.shown.contents (looks + a.shown.looks) × CoverRows P x.changes.rows.items looks)) (sym same)
               (allowed some count, whole_covers P first looks x.changes.rows.items sound by.changes.rows_ascend least)
-          each (Err r) same by some count = subst (λ r. IfOk r (λ (x : Remade). AreAllowed P q.what a.shown.contents (looks + a.shown.looks) × CoverRows P x.changes.rows.items looks)) (sym same) tt
+          each (Err r) same by some count = subst (λ r. IfOk r (λ (x : Rebuilt). AreAllowed P q.what a.shown.contents (looks + a.shown.looks) × CoverRows P x.changes.rows.items looks)) (sym same) tt

@@ -20,7 +20,7 @@ use Rattle.plan_model.specs.Valid.{IsSound}
 use Rattle.small_requests.specs.plan_laws.proofs.Kept.{ready_unmarked}
 use Rattle.small_requests.specs.plan_laws.proofs.Revised.{get-revised}
 use Rattle.small_requests.proofs.ChosenEntries.{chosen_are_ready}
-use Rattle.small_requests.specs.KeptEdits.{IsSmall}
+use Rattle.small_requests.specs.RequestEdits.{IsSmall}
 use Rattle.small_requests.specs.plan_changes.specs.Additions.{HasNothingOf}
 use Rattle.small_requests.specs.plan_checks.proofs.ComingApart.{comes_apart}
 use Rattle.small_requests.specs.plan_checks.specs.Commands.{Extends}

@@ -2,7 +2,7 @@ pub mod Extensions
 pub mod HandedGraphs
 pub mod KeptRecords
 pub mod KnownRows
-pub mod LedTo
+pub mod OutcomeTo
 pub mod Made
 pub mod Preparing
 pub mod Refusing

@@ -16,7 +16,7 @@ use Rattle.plan_records.specs.Step.{Step}
 use Rattle.plan_records.specs.declared.Request.{Request}
 use Rattle.plan_records.specs.declared.What.{What}
 use Rattle.plan_records.specs.declared.What.TheVariants as what
-use Rattle.small_requests.specs.KeptEdits.{IsSmall}
+use Rattle.small_requests.specs.RequestEdits.{IsSmall}
 use Rattle.plan_model.specs.Plan.{plan_held}
 use Rattle.request_outcomes.specs.Requested.{AreMadeBy}
 

@@ -14,7 +14,7 @@ use Rattle.plan_model.specs.Contents.{Contents, Operation, nothing}
 use Rattle.plan_model.specs.Ready.{named}
 use Rattle.plan_model.specs.Revise.{len-revise}
 use Rattle.plan_model.specs.Valid.{IsSound}
-use Rattle.small_requests.specs.KeptEdits.{IsSmall}
+use Rattle.small_requests.specs.RequestEdits.{IsSmall}
 use Rattle.small_requests.specs.LooksLaws.{WholePlansLookFew}
 
 -- ---- as many operations are there once some are named

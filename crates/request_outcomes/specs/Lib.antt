@@ -3,8 +3,8 @@ pub use Rattle.small_requests
 pub mod Leaving
 pub mod Next
 pub mod Looked
-pub mod Outcomes
-pub mod Asked
-pub mod Anew
-pub mod Led
+pub mod AcceptedOutcomes
+pub mod DatedRequests
+pub mod Rebuilds
+pub mod RequestOutcomes
 pub mod Requested

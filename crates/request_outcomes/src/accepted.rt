@@ -1,7 +1,7 @@
 // What a request that is accepted leads to.
 use plan_basics::OpKey;
 use plan_records::Changes;
-use small_requests::{LoadedPlan, Revision, Shift};
+use small_requests::{FigureChange, LoadedPlan, Revision};
 
 /// What a small request writes into what a plan holds, and what changes in its figures. The graph and the latest starts
 /// stay.
@@ -11,12 +11,12 @@ pub struct Writing {
     pub keys: Vec<OpKey>,
     pub revision: Revision,
     /// With what is named marked so.
-    pub shift: Shift,
+    pub figure_change: FigureChange,
 }
 
 /// What a request that is accepted makes of a plan.
 #[derive(Drop)]
-pub enum Next {
+pub enum NextPlan {
     /// All of it anew.
     Whole(LoadedPlan),
     /// The plan with this written into it.
@@ -25,8 +25,8 @@ pub enum Next {
 
 /// What a request leads to that is accepted, before its moment and its looks are told.
 #[derive(Drop)]
-pub struct Outcome {
-    pub next: Next,
+pub struct AcceptedOutcome {
+    pub next: NextPlan,
     /// The operations that are named, in order.
     pub named: Vec<OpKey>,
     pub changes: Changes,

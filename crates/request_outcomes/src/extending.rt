@@ -5,8 +5,8 @@ ghost use Rattle.std.specs.List.Sorted.{IsStrictlySortedBy};
 ghost use Rattle.plan_basics.specs.Minutes.{IsMoment};
 ghost use Rattle.plan_basics.specs.Refusals.{IsLeastRefusal, NoneRefuses};
 ghost use Rattle.plan_basics.specs.declared.Refusal.{Refusal};
-ghost use Rattle.request_outcomes.specs.Anew.{AreLooksAnew, IsAnewOf, IsSettledOf, IsToldOf};
-ghost use Rattle.request_outcomes.specs.Asked.{plan_asked};
+ghost use Rattle.request_outcomes.specs.Rebuilds.{AreRebuildLooks, IsRebuildOf, AreRebuiltPartsOf, IsToldOf};
+ghost use Rattle.request_outcomes.specs.DatedRequests.{plan_asked};
 ghost use Rattle.plan_records.specs.Acceptance.{MayBeAdded};
 ghost use Rattle.plan_records.specs.Answer.{refused};
 ghost use Rattle.plan_records.specs.Changes.{with_added};
@@ -17,20 +17,24 @@ ghost use Rattle.plan_drafts.specs.Contents.{added_of, AreExtensionParts};
 ghost use Rattle.plan_drafts.specs.PlanGraphs.{IsGraphFor};
 ghost use Rattle.plan_model.specs.Plan.{Plan};
 ghost use Rattle.plan_model.specs.Valid.{IsSound};
-ghost use Rattle.small_requests.specs.derived_figures.specs.Frames.{IsFrameOf};
+ghost use Rattle.small_requests.specs.derived_figures.specs.DerivedRefs.{AreDerivedOf};
 
-use super::anew::{Anew, Before, made_anew};
-use super::asked::Asked;
-use super::left::{Left, left_of};
+use super::dated_requests::DatedRequest;
+use super::rebuilds::{ChangeBase, Rebuild, rebuilt_plan};
+use super::remaining::{RemainingPlan, remaining_of};
 use operation_graph::Graph;
 use plan_basics::{Moment, Refusal};
 use plan_drafts::{Extension, ExtensionParts};
 use plan_records::PlanRow;
-use small_requests::{Frame, Shown, check_shown, columns_of, rows_of};
+use small_requests::{CountedRecords, DerivedRefs, check_shown, columns_of, rows_of};
 use std::alloc::Global;
 
 // What is left of a plan with what is added, in whose way nothing stands, and the graph of both; or that no memory is found.
-fn joined(alloc: Global, left: Shown, parts: &ExtensionParts) -> (Shown, Result<Graph, Refusal>)
+fn joined(
+    alloc: Global,
+    left: CountedRecords,
+    parts: &ExtensionParts,
+) -> (CountedRecords, Result<Graph, Refusal>)
     requires parts { AreExtensionParts parts.now }
     requires clear { NoneRefuses (MayBeAdded left.contents (added_of parts.now)) }
     ensures contents { OnOk result.1 (result.0.contents ≡ with_added left.contents (added_of parts.now)) }
@@ -38,12 +42,12 @@ fn joined(alloc: Global, left: Shown, parts: &ExtensionParts) -> (Shown, Result<
     ensures looks { result.0.looks ≡ left.looks }
     ensures refused { IfErr result.1 (λ r. r ≡ Refusal.Memory) }
 {
-    left.beside().are_sound();
+    left.uncounted().are_sound();
     let (shown, added) = left.with_addition(alloc, parts);
     if added.is_err() {
         return (shown, Err(Refusal::Memory));
     }
-    match shown.beside().graph(alloc) {
+    match shown.uncounted().graph(alloc) {
         Ok(graph) => (shown, Ok(graph)),
         Err(_) => (shown, Err(Refusal::Memory)),
     }
@@ -51,45 +55,57 @@ fn joined(alloc: Global, left: Shown, parts: &ExtensionParts) -> (Shown, Result<
 
 // What comes at a moment of what is left of a plan, of which these were all rows, once what is added, in whose way nothing stands, has
 // come in. It takes four looks at each operation at most.
-fn grown(alloc: Global, rows: &[PlanRow], left: Shown, parts: &ExtensionParts, at: Moment) -> Anew
+fn grown(
+    alloc: Global,
+    rows: &[PlanRow],
+    left: CountedRecords,
+    parts: &ExtensionParts,
+    at: Moment,
+) -> Rebuild
     requires in_order { IsStrictlySortedBy row_cmp (map key_of rows.now) }
     requires parts { AreExtensionParts parts.now }
     requires clear { NoneRefuses (MayBeAdded left.contents (added_of parts.now)) }
-    ensures settled { IfOk result.remade (λ x. IsSettledOf (with_added left.contents (added_of parts.now)) at result.shown.contents x.settled) }
-    ensures told { IfOk result.remade (λ x. (P : Plan) → AreRows P rows.now → IsToldOf P at result.shown.contents x) }
-    ensures most { IfOk result.remade (λ x. result.shown.looks ≤ left.looks + 4 * length (entries (with_added left.contents (added_of parts.now)).operations)) }
-    ensures refused { IfErr result.remade (λ r. r ≡ Refusal.Memory) }
+    ensures rebuilt_parts { IfOk result.rebuilt (λ x. AreRebuiltPartsOf (with_added left.contents (added_of parts.now)) at result.shown.contents x.rebuilt_parts) }
+    ensures told { IfOk result.rebuilt (λ x. (P : Plan) → AreRows P rows.now → IsToldOf P at result.shown.contents x) }
+    ensures most { IfOk result.rebuilt (λ x. result.shown.looks ≤ left.looks + 4 * length (entries (with_added left.contents (added_of parts.now)).operations)) }
+    ensures refused { IfErr result.rebuilt (λ r. r ≡ Refusal.Memory) }
 {
     let (shown, graph) = joined(alloc, left, parts);
     match graph {
-        Ok(graph) => made_anew(alloc, &Before::Listed(rows), shown, graph, at),
-        Err(refusal) => Anew {
+        Ok(graph) => rebuilt_plan(alloc, &ChangeBase::Listed(rows), shown, graph, at),
+        Err(refusal) => Rebuild {
             shown,
-            remade: Err(refusal),
+            rebuilt: Err(refusal),
         },
     }
 }
 
 // What an extension leads to at a moment by what is left of a plan, of which these were all rows: what is added is judged there, by a look
 // at each operation, and then four are taken at each that there is, at most.
-fn extended(alloc: Global, rows: &[PlanRow], left: Left, parts: &ExtensionParts, at: Moment) -> Anew
+fn extended(
+    alloc: Global,
+    rows: &[PlanRow],
+    left: RemainingPlan,
+    parts: &ExtensionParts,
+    at: Moment,
+) -> Rebuild
     requires in_order { IsStrictlySortedBy row_cmp (map key_of rows.now) }
     requires sound { IsSound left.copy }
     requires graph { IsGraphFor left.copy left.graph }
     requires parts { AreExtensionParts parts.now }
-    ensures clear { OnOk result.remade (NoneRefuses (MayBeAdded left.copy (added_of parts.now))) }
-    ensures settled { IfOk result.remade (λ x. IsSettledOf (with_added left.copy (added_of parts.now)) at result.shown.contents x.settled) }
-    ensures told { IfOk result.remade (λ x. (P : Plan) → AreRows P rows.now → IsToldOf P at result.shown.contents x) }
-    ensures most { IfOk result.remade (λ x. result.shown.looks ≤ length (entries left.copy.operations) + 4 * length (entries (with_added left.copy (added_of parts.now)).operations)) }
-    ensures refused { IfErr result.remade (λ r. (r ≡ Refusal.Memory) ⊎ IsLeastRefusal (MayBeAdded left.copy (added_of parts.now)) r) }
+    ensures clear { OnOk result.rebuilt (NoneRefuses (MayBeAdded left.copy (added_of parts.now))) }
+    ensures rebuilt_parts { IfOk result.rebuilt (λ x. AreRebuiltPartsOf (with_added left.copy (added_of parts.now)) at result.shown.contents x.rebuilt_parts) }
+    ensures told { IfOk result.rebuilt (λ x. (P : Plan) → AreRows P rows.now → IsToldOf P at result.shown.contents x) }
+    ensures most { IfOk result.rebuilt (λ x. result.shown.looks ≤ length (entries left.copy.operations) + 4 * length (entries (with_added left.copy (added_of parts.now)).operations)) }
+    ensures refused { IfErr result.rebuilt (λ r. (r ≡ Refusal.Memory) ⊎ IsLeastRefusal (MayBeAdded left.copy (added_of parts.now)) r) }
 {
-    let Left { copy, graph } = left;
+    let RemainingPlan { copy, graph } = left;
     let mut shown = copy.into_shown();
     match check_shown(alloc, &mut shown, &graph, parts) {
         Ok(()) => grown(alloc, rows, shown, parts, at),
-        Err(refusal) => Anew {
+        Err(refusal) => Rebuild {
             shown,
-            remade: Err(refusal),
+            rebuilt: Err(refusal),
         },
     }
 }
@@ -99,25 +115,25 @@ fn extended(alloc: Global, rows: &[PlanRow], left: Left, parts: &ExtensionParts,
 /// what is over leaves the copy, in which what is added is judged and worked out, and each record is shown by a look too.
 pub fn extended_outcome(
     alloc: Global,
-    shown: &mut Shown,
-    frame: Frame<'_>,
-    asked: &Asked<'_>,
+    shown: &mut CountedRecords,
+    derived: DerivedRefs<'_>,
+    asked: &DatedRequest<'_>,
     extension: &Option<Extension>,
-) -> Result<Anew, Refusal>
-    requires frame { IsFrameOf shown.old.contents frame }
+) -> Result<Rebuild, Refusal>
+    requires derived { AreDerivedOf shown.old.contents derived }
     requires moment { IsMoment asked.now.at }
     requires at { asked.now.request.now.at ≡ pos asked.now.at }
     requires onward { pos asked.now.clock ≤ℤ asked.now.request.now.at }
     requires is { asked.now.request.now.what ≡ what.Extend extension.now }
     requires none { shown.old.looks ≡ 0 }
     ensures contents { shown.new.contents ≡ shown.old.contents }
-    ensures anew { IfOk result (IsAnewOf (plan_asked shown.old.contents asked.now) asked.now.request.now asked.now.at) }
-    ensures looked { IfOk result (λ a. AreLooksAnew shown.old.contents asked.now.request.now.what a shown.new.looks) }
+    ensures rebuild { IfOk result (IsRebuildOf (plan_asked shown.old.contents asked.now) asked.now.request.now asked.now.at) }
+    ensures looked { IfOk result (λ a. AreRebuildLooks shown.old.contents asked.now.request.now.what a shown.new.looks) }
     ensures refused { IfErr result (λ r. (r ≡ Refusal.Memory) ⊎ Step (plan_asked shown.old.contents asked.now) asked.now.request.now (refused r) (plan_asked shown.old.contents asked.now)) }
 {
     let extension = extension.as_ref().ok_or(Refusal::BadPlan)?;
-    shown.beside().are_sound();
-    let rows = rows_of(alloc, shown, columns_of(frame), asked.clock)?;
-    let left = left_of(alloc, shown, frame)?;
+    shown.uncounted().are_sound();
+    let rows = rows_of(alloc, shown, columns_of(derived), asked.clock)?;
+    let left = remaining_of(alloc, shown, derived)?;
     Ok(extended(alloc, &rows, left, extension.parts(), asked.at))
 }

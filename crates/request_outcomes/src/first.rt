@@ -2,7 +2,7 @@
 ghost use Rattle.std.specs.Prelude.{◌≡◌, ◌⊎◌, ◌≤ℤ◌, ℕ, pos, None, Some, IfErr, IfOk, OnOk};
 ghost use Rattle.plan_basics.specs.Refusals.{IsLeastRefusal, NoneRefuses};
 ghost use Rattle.plan_basics.specs.declared.Refusal.{Refusal};
-ghost use Rattle.request_outcomes.specs.Anew.{AreLooksAnew, IsAnewOf};
+ghost use Rattle.request_outcomes.specs.Rebuilds.{AreRebuildLooks, IsRebuildOf};
 ghost use Rattle.request_outcomes.specs.Requested.{AreMadeBy, MayBeMadeAt};
 ghost use Rattle.plan_records.specs.Acceptance.{MayBeAccepted};
 ghost use Rattle.plan_records.specs.Answer.{refused};
@@ -11,7 +11,7 @@ ghost use Rattle.plan_drafts.specs.PlanGraphs.{IsGraphFor};
 ghost use Rattle.plan_model.specs.Contents.{nothing};
 ghost use Rattle.plan_model.specs.Plan.{IsSoundPlan, plan_held};
 
-use super::anew::{Anew, Before, made_anew};
+use super::rebuilds::{ChangeBase, Rebuild, rebuilt_plan};
 use super::requests::drafted;
 use operation_graph::Graph;
 use plan_basics::{Moment, Refusal};
@@ -52,12 +52,12 @@ fn loaded_first(
     clock: Moment,
     request: &Request,
     at: Moment,
-) -> Result<Anew, Refusal>
+) -> Result<Rebuild, Refusal>
     requires sound { IsSoundPlan (plan_held clock None) }
     requires clear { NoneRefuses (MayBeAccepted (plan_held clock None) request.now) }
     requires at { request.now.at ≡ pos at }
-    ensures anew { IfOk result (IsAnewOf (plan_held clock None) request.now at) }
-    ensures looked { IfOk result (λ a. AreLooksAnew nothing request.now.what a 0) }
+    ensures rebuild { IfOk result (IsRebuildOf (plan_held clock None) request.now at) }
+    ensures looked { IfOk result (λ a. AreRebuildLooks nothing request.now.what a 0) }
     ensures refused { IfErr result (λ r. r ≡ Refusal.Memory) }
 {
     whole_plans_look_few();
@@ -66,8 +66,8 @@ fn loaded_first(
         clock,
         loaded: None,
     };
-    let kept = Before::Kept(&before);
-    Ok(made_anew(alloc, &kept, copy.into_shown(), graph, at))
+    let kept = ChangeBase::Kept(&before);
+    Ok(rebuilt_plan(alloc, &kept, copy.into_shown(), graph, at))
 }
 
 /// What a request that is made at a moment leads to where no plan is loaded; or the least refusal that applies, or that no memory
@@ -77,12 +77,12 @@ pub fn first_outcome(
     clock: Moment,
     request: &Request,
     at: Moment,
-) -> Result<Anew, Refusal>
+) -> Result<Rebuild, Refusal>
     requires sound { IsSoundPlan (plan_held clock None) }
     requires at { request.now.at ≡ pos at }
     requires onward { pos clock ≤ℤ request.now.at }
-    ensures anew { IfOk result (IsAnewOf (plan_held clock None) request.now at) }
-    ensures looked { IfOk result (λ a. AreLooksAnew nothing request.now.what a 0) }
+    ensures rebuild { IfOk result (IsRebuildOf (plan_held clock None) request.now at) }
+    ensures looked { IfOk result (λ a. AreRebuildLooks nothing request.now.what a 0) }
     ensures refused { IfErr result (λ r. (r ≡ Refusal.Memory) ⊎ Step (plan_held clock None) request.now (refused r) (plan_held clock None)) }
 {
     check_first(&request.what)?;

@@ -11,24 +11,24 @@ ghost use Rattle.plan_drafts.specs.PlanGraphs.{IsGraphFor};
 use operation_graph::Graph;
 use plan_basics::{OpKey, Refusal};
 use plan_records::What;
-use small_requests::Beside;
+use small_requests::UncountedContents;
 use std::alloc::Global;
 
 // The graph of a plan, with the edge of one more pair. The error is always `Memory`.
 fn graph_with(
-    beside: &Beside<'_>,
+    uncounted: &UncountedContents<'_>,
     graph: &Graph,
     predecessor: &OpKey,
     successor: &OpKey,
 ) -> Result<Graph, Refusal>
-    requires graph { IsGraphFor beside.now.contents.now graph.now }
-    requires first { contains_key beside.now.contents.now.operations predecessor.now ≡ true }
-    requires second { contains_key beside.now.contents.now.operations successor.now ≡ true }
-    ensures graph { IfOk result (IsGraphFor (with_pair beside.now.contents.now predecessor.now successor.now)) }
+    requires graph { IsGraphFor uncounted.now.contents.now graph.now }
+    requires first { contains_key uncounted.now.contents.now.operations predecessor.now ≡ true }
+    requires second { contains_key uncounted.now.contents.now.operations successor.now ≡ true }
+    ensures graph { IfOk result (IsGraphFor (with_pair uncounted.now.contents.now predecessor.now successor.now)) }
     ensures refused { IfErr result (λ r. r ≡ Refusal.Memory) }
 {
-    let before = beside.known_operation_place(predecessor);
-    let after = beside.known_operation_place(successor);
+    let before = uncounted.known_operation_place(predecessor);
+    let after = uncounted.known_operation_place(successor);
     let mut copy = graph.try_clone()?;
     match copy.add_edge(before, after) {
         Ok(()) => Ok(copy),
@@ -40,21 +40,21 @@ fn graph_with(
 /// deletion a copy of it, for a dependency that copy with one edge more. The error is always `Memory`.
 pub fn graph_after(
     alloc: Global,
-    beside: &Beside<'_>,
+    uncounted: &UncountedContents<'_>,
     graph: &Graph,
     what: &What,
-    new: &Beside<'_>,
+    new: &UncountedContents<'_>,
 ) -> Result<Graph, Refusal>
-    requires graph { IsGraphFor beside.now.contents.now graph.now }
-    requires clear { (at : ℕ) × NoneRefuses (MayBeDone beside.now.contents.now at what.now) }
-    requires made { AreMadeBy beside.now.contents.now what.now new.now.contents.now }
+    requires graph { IsGraphFor uncounted.now.contents.now graph.now }
+    requires clear { (at : ℕ) × NoneRefuses (MayBeDone uncounted.now.contents.now at what.now) }
+    requires made { AreMadeBy uncounted.now.contents.now what.now new.now.contents.now }
     ensures graph { IfOk result (IsGraphFor new.now.contents.now) }
     ensures refused { IfErr result (λ r. r ≡ Refusal.Memory) }
 {
     match what {
         What::DeleteOccurrence(_) => graph.try_clone(),
         What::AddDependency(predecessor, successor) => {
-            graph_with(beside, graph, predecessor, successor)
+            graph_with(uncounted, graph, predecessor, successor)
         }
         _ => Ok(new.graph(alloc)?),
     }

@@ -3,25 +3,25 @@
 #![tactic(auto)]
 
 mod accepted;
-mod anew;
-mod asked;
+mod dated_requests;
 mod extending;
 mod first;
 mod graphs;
-mod led;
-mod left;
 mod outcomes;
+mod rebuilds;
+mod rebuilt_parts;
+mod remaining;
+mod request_outcome;
 mod requests;
-mod settle;
 mod telling;
 mod whole;
 
-pub use accepted::{Next, Outcome, Writing};
-pub use anew::{Anew, Remade};
-pub use asked::Asked;
+pub use accepted::{AcceptedOutcome, NextPlan, Writing};
+pub use dated_requests::DatedRequest;
 pub use first::first_outcome;
-pub use led::Led;
 pub use operation_graph::Graph;
 pub use outcomes::outcome_of;
-pub use settle::Settled;
-pub use small_requests::{check_load, shifted, stepped};
+pub use rebuilds::{Rebuild, Rebuilt};
+pub use rebuilt_parts::RebuiltParts;
+pub use request_outcome::RequestOutcome;
+pub use small_requests::{changed_figures, check_load, stepped};

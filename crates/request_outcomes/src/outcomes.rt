@@ -3,22 +3,22 @@ ghost use Rattle.std.specs.Prelude.{◌≡◌, ◌⊎◌, ◌+◌, ◌≤◌, �
 ghost use Rattle.plan_basics.specs.Minutes.{IsMoment};
 ghost use Rattle.plan_basics.specs.Refusals.{IsLeastRefusal, NoneRefuses};
 ghost use Rattle.plan_basics.specs.declared.Refusal.{Refusal};
-ghost use Rattle.request_outcomes.specs.Asked.{IsAcceptable, plan_asked};
-ghost use Rattle.request_outcomes.specs.Led.{AreLooksLed, IsLedFor};
+ghost use Rattle.request_outcomes.specs.DatedRequests.{IsAcceptable, plan_asked};
+ghost use Rattle.request_outcomes.specs.RequestOutcomes.{AreRequestOutcomeLooks, IsRequestOutcomeFor};
 ghost use Rattle.request_outcomes.specs.Requested.{MayBeMadeAt};
 ghost use Rattle.plan_records.specs.Answer.{refused};
 ghost use Rattle.plan_records.specs.Step.{Step};
-ghost use Rattle.small_requests.specs.KeptEdits.{IsSmall};
+ghost use Rattle.small_requests.specs.RequestEdits.{IsSmall};
 ghost use Rattle.small_requests.specs.plan_checks.specs.Commands.{Extends};
 ghost use Rattle.small_requests.specs.start_choice.specs.Choices.{AreLatestStarts};
 ghost use Rattle.plan_drafts.specs.PlanGraphs.{IsGraphFor};
 ghost use Rattle.plan_model.specs.Plan.{plan_held};
 ghost use Rattle.small_requests.specs.derived_figures.specs.Figures.{AreFigures};
-ghost use Rattle.small_requests.specs.derived_figures.specs.Frames.{IsFrameOf};
+ghost use Rattle.small_requests.specs.derived_figures.specs.DerivedRefs.{AreDerivedOf};
 
-use super::asked::Asked;
+use super::dated_requests::DatedRequest;
 use super::extending::extended_outcome;
-use super::led::Led;
+use super::request_outcome::RequestOutcome;
 use super::telling::told;
 use super::whole::whole_outcome;
 use operation_graph::Graph;
@@ -26,7 +26,8 @@ use plan_basics::{Moment, Refusal};
 use plan_model::Latest;
 use plan_records::What;
 use small_requests::{
-    Figures, Frame, Setting, Shown, check_load, check_request, is_small, small_trial,
+    CountedRecords, DerivedRefs, Figures, StepContext, check_load, check_request, is_small,
+    small_trial,
 };
 use std::alloc::Global;
 
@@ -34,12 +35,12 @@ use std::alloc::Global;
 // look at most.
 fn check_in(
     alloc: Global,
-    shown: &mut Shown,
-    frame: Frame<'_>,
+    shown: &mut CountedRecords,
+    derived: DerivedRefs<'_>,
     what: &What,
     at: Moment,
 ) -> Result<(), Refusal>
-    requires frame { IsFrameOf shown.old.contents frame }
+    requires derived { AreDerivedOf shown.old.contents derived }
     requires stays { ¬ Extends what.now }
     ensures ok { (clock : ℕ) → OnOk result (NoneRefuses (MayBeMadeAt (plan_held clock (Some shown.old.contents)) at what.now)) }
     ensures refused { (clock : ℕ) → IfErr result (λ r. (r ≡ Refusal.Memory) ⊎ IsLeastRefusal (MayBeMadeAt (plan_held clock (Some shown.old.contents)) at what.now) r) }
@@ -49,7 +50,7 @@ fn check_in(
     if let What::Load(draft) = what {
         check_load(true, draft)
     } else {
-        check_request(alloc, shown, frame, what, at)
+        check_request(alloc, shown, derived, what, at)
     }
 }
 
@@ -57,12 +58,12 @@ fn check_in(
 // All comes back as it was. The error is always `Memory`.
 fn small_outcome(
     alloc: Global,
-    shown: Shown,
+    shown: CountedRecords,
     graph: &Graph,
     latest: &Latest,
     figures: Figures,
-    asked: &Asked<'_>,
-) -> (Shown, Figures, Result<Led, Refusal>)
+    asked: &DatedRequest<'_>,
+) -> (CountedRecords, Figures, Result<RequestOutcome, Refusal>)
     requires graph { IsGraphFor shown.contents graph.now }
     requires latest { AreLatestStarts shown.contents latest.now.starts }
     requires figures { AreFigures shown.contents figures }
@@ -71,26 +72,26 @@ fn small_outcome(
     requires few { shown.looks ≤ 1 }
     ensures contents { result.0.contents ≡ shown.contents }
     ensures figures { AreFigures shown.contents result.1 }
-    ensures led { IfOk result.2 (IsLedFor shown.contents asked.now) }
-    ensures looked { IfOk result.2 (λ l. AreLooksLed shown.contents asked.now.request.now.what l result.0.looks) }
+    ensures outcome { IfOk result.2 (IsRequestOutcomeFor shown.contents asked.now) }
+    ensures looked { IfOk result.2 (λ l. AreRequestOutcomeLooks shown.contents asked.now.request.now.what l result.0.looks) }
     ensures refused { IfErr result.2 (λ r. r ≡ Refusal.Memory) }
 {
-    let setting = Setting {
+    let context = StepContext {
         alloc,
         graph,
         latest,
         at: asked.at,
     };
-    let (mut shown, figures, trial) = small_trial(&setting, shown, figures, &asked.request.what);
+    let (mut shown, figures, trial) = small_trial(&context, shown, figures, &asked.request.what);
     match trial {
         Ok((edit, step)) => {
-            let frame = Frame {
+            let derived = DerivedRefs {
                 graph,
                 latest,
                 figures: &figures,
             };
-            match told(alloc, &mut shown, frame, asked, edit, step) {
-                Ok(outcome) => (shown, figures, Ok(Led::Small(outcome))),
+            match told(alloc, &mut shown, derived, asked, edit, step) {
+                Ok(outcome) => (shown, figures, Ok(RequestOutcome::Small(outcome))),
                 Err(refusal) => (shown, figures, Err(refusal)),
             }
         }
@@ -102,12 +103,12 @@ fn small_outcome(
 // small, or else worked out over a copy. All comes back as it was. The error is always `Memory`.
 fn accepted_outcome(
     alloc: Global,
-    shown: Shown,
+    shown: CountedRecords,
     graph: &Graph,
     latest: &Latest,
     figures: Figures,
-    asked: &Asked<'_>,
-) -> (Shown, Figures, Result<Led, Refusal>)
+    asked: &DatedRequest<'_>,
+) -> (CountedRecords, Figures, Result<RequestOutcome, Refusal>)
     requires graph { IsGraphFor shown.contents graph.now }
     requires latest { AreLatestStarts shown.contents latest.now.starts }
     requires figures { AreFigures shown.contents figures }
@@ -116,21 +117,21 @@ fn accepted_outcome(
     requires few { shown.looks ≤ 1 }
     ensures contents { result.0.contents ≡ shown.contents }
     ensures figures { AreFigures shown.contents result.1 }
-    ensures led { IfOk result.2 (IsLedFor shown.contents asked.now) }
-    ensures looked { IfOk result.2 (λ l. AreLooksLed shown.contents asked.now.request.now.what l result.0.looks) }
+    ensures outcome { IfOk result.2 (IsRequestOutcomeFor shown.contents asked.now) }
+    ensures looked { IfOk result.2 (λ l. AreRequestOutcomeLooks shown.contents asked.now.request.now.what l result.0.looks) }
     ensures refused { IfErr result.2 (λ r. r ≡ Refusal.Memory) }
 {
     if is_small(&asked.request.what) {
         return small_outcome(alloc, shown, graph, latest, figures, asked);
     }
     let mut shown = shown;
-    let frame = Frame {
+    let derived = DerivedRefs {
         graph,
         latest,
         figures: &figures,
     };
-    match whole_outcome(alloc, &mut shown, frame, asked) {
-        Ok(anew) => (shown, figures, Ok(Led::Whole(anew))),
+    match whole_outcome(alloc, &mut shown, derived, asked) {
+        Ok(rebuild) => (shown, figures, Ok(RequestOutcome::Whole(rebuild))),
         Err(refusal) => (shown, figures, Err(refusal)),
     }
 }
@@ -139,12 +140,12 @@ fn accepted_outcome(
 // looked at; or the least refusal that applies, or that no memory is found. What is shown and what is kept come back as they were.
 fn checked_outcome(
     alloc: Global,
-    shown: Shown,
+    shown: CountedRecords,
     graph: &Graph,
     latest: &Latest,
     figures: Figures,
-    asked: &Asked<'_>,
-) -> (Shown, Figures, Result<Led, Refusal>)
+    asked: &DatedRequest<'_>,
+) -> (CountedRecords, Figures, Result<RequestOutcome, Refusal>)
     requires graph { IsGraphFor shown.contents graph.now }
     requires latest { AreLatestStarts shown.contents latest.now.starts }
     requires figures { AreFigures shown.contents figures }
@@ -156,17 +157,17 @@ fn checked_outcome(
     requires none { shown.looks ≡ 0 }
     ensures contents { result.0.contents ≡ shown.contents }
     ensures figures { AreFigures shown.contents result.1 }
-    ensures led { IfOk result.2 (IsLedFor shown.contents asked.now) }
-    ensures looked { IfOk result.2 (λ l. AreLooksLed shown.contents asked.now.request.now.what l result.0.looks) }
+    ensures outcome { IfOk result.2 (IsRequestOutcomeFor shown.contents asked.now) }
+    ensures looked { IfOk result.2 (λ l. AreRequestOutcomeLooks shown.contents asked.now.request.now.what l result.0.looks) }
     ensures refused { IfErr result.2 (λ r. (r ≡ Refusal.Memory) ⊎ Step (plan_asked shown.contents asked.now) asked.now.request.now (refused r) (plan_asked shown.contents asked.now)) }
 {
     let mut shown = shown;
-    let frame = Frame {
+    let derived = DerivedRefs {
         graph,
         latest,
         figures: &figures,
     };
-    match check_in(alloc, &mut shown, frame, &asked.request.what, asked.at) {
+    match check_in(alloc, &mut shown, derived, &asked.request.what, asked.at) {
         Ok(()) => accepted_outcome(alloc, shown, graph, latest, figures, asked),
         Err(refusal) => (shown, figures, Err(refusal)),
     }
@@ -178,12 +179,12 @@ fn checked_outcome(
 /// shown; any other works all out afresh over a copy, of which what is over has left for an extension.
 pub fn outcome_of(
     alloc: Global,
-    shown: Shown,
+    shown: CountedRecords,
     graph: &Graph,
     latest: &Latest,
     figures: Figures,
-    asked: &Asked<'_>,
-) -> (Shown, Figures, Result<Led, Refusal>)
+    asked: &DatedRequest<'_>,
+) -> (CountedRecords, Figures, Result<RequestOutcome, Refusal>)
     requires graph { IsGraphFor shown.contents graph.now }
     requires latest { AreLatestStarts shown.contents latest.now.starts }
     requires figures { AreFigures shown.contents figures }
@@ -194,19 +195,19 @@ pub fn outcome_of(
     requires none { shown.looks ≡ 0 }
     ensures contents { result.0.contents ≡ shown.contents }
     ensures figures { AreFigures shown.contents result.1 }
-    ensures led { IfOk result.2 (IsLedFor shown.contents asked.now) }
-    ensures looked { IfOk result.2 (λ l. AreLooksLed shown.contents asked.now.request.now.what l result.0.looks) }
+    ensures outcome { IfOk result.2 (IsRequestOutcomeFor shown.contents asked.now) }
+    ensures looked { IfOk result.2 (λ l. AreRequestOutcomeLooks shown.contents asked.now.request.now.what l result.0.looks) }
     ensures refused { IfErr result.2 (λ r. (r ≡ Refusal.Memory) ⊎ Step (plan_asked shown.contents asked.now) asked.now.request.now (refused r) (plan_asked shown.contents asked.now)) }
 {
     if let What::Extend(extension) = &asked.request.what {
         let mut shown = shown;
-        let frame = Frame {
+        let derived = DerivedRefs {
             graph,
             latest,
             figures: &figures,
         };
-        match extended_outcome(alloc, &mut shown, frame, asked, extension) {
-            Ok(anew) => (shown, figures, Ok(Led::Whole(anew))),
+        match extended_outcome(alloc, &mut shown, derived, asked, extension) {
+            Ok(rebuild) => (shown, figures, Ok(RequestOutcome::Whole(rebuild))),
             Err(refusal) => (shown, figures, Err(refusal)),
         }
     } else {

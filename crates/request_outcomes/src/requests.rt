@@ -10,7 +10,7 @@ ghost use Rattle.plan_records.specs.Acceptance.{MayBeAdded, MayBeDone, NeedsPlan
 ghost use Rattle.plan_records.specs.Changes.{with_added};
 ghost use Rattle.plan_records.specs.declared.What.{What};
 ghost use Rattle.request_outcomes.specs.Requested.{AreMadeBy};
-ghost use Rattle.small_requests.specs.KeptEdits.{IsSmall};
+ghost use Rattle.small_requests.specs.RequestEdits.{IsSmall};
 ghost use Rattle.small_requests.specs.plan_checks.specs.Commands.{Extends};
 
 use operation_graph::Graph;

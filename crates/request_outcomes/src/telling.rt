@@ -1,17 +1,17 @@
 // What a small request leads to, told by what was noted as it was tried in the plan itself.
 ghost use Rattle.std.specs.Prelude.{◌≡◌, ◌≤◌, ℕ, IfErr, IfOk};
 ghost use Rattle.plan_basics.specs.declared.Refusal.{Refusal};
-ghost use Rattle.request_outcomes.specs.Asked.{IsAcceptable, IsOutcomeFor};
-ghost use Rattle.request_outcomes.specs.Outcomes.{AreLooksTo};
-ghost use Rattle.small_requests.specs.KeptEdits.{IsSmall};
+ghost use Rattle.request_outcomes.specs.DatedRequests.{IsAcceptable, IsAcceptedOutcomeFor};
+ghost use Rattle.request_outcomes.specs.AcceptedOutcomes.{AreLooksTo};
+ghost use Rattle.small_requests.specs.RequestEdits.{IsSmall};
 ghost use Rattle.small_requests.specs.Trials.{IsTrialOf};
-ghost use Rattle.small_requests.specs.derived_figures.specs.Frames.{IsFrameOf};
+ghost use Rattle.small_requests.specs.derived_figures.specs.DerivedRefs.{AreDerivedOf};
 
-use super::accepted::{Next, Outcome, Writing};
-use super::asked::Asked;
+use super::accepted::{AcceptedOutcome, NextPlan, Writing};
+use super::dated_requests::DatedRequest;
 use plan_basics::Refusal;
 use small_requests::{
-    Edit, Frame, Shown, SmallStep, columns_of, noted_changes, small_steps_look_few,
+    CountedRecords, DerivedRefs, Edit, SmallStep, columns_of, noted_changes, small_steps_look_few,
 };
 use std::alloc::Global;
 
@@ -19,34 +19,38 @@ use std::alloc::Global;
 /// told by a look at each row that was noted. The error is always `Memory`.
 pub fn told(
     alloc: Global,
-    shown: &mut Shown,
-    frame: Frame<'_>,
-    asked: &Asked<'_>,
+    shown: &mut CountedRecords,
+    derived: DerivedRefs<'_>,
+    asked: &DatedRequest<'_>,
     edit: Edit,
     step: SmallStep,
-) -> Result<Outcome, Refusal>
-    requires frame { IsFrameOf shown.old.contents frame }
+) -> Result<AcceptedOutcome, Refusal>
+    requires derived { AreDerivedOf shown.old.contents derived }
     requires acceptable { IsAcceptable shown.old.contents asked.now }
     requires small { IsSmall asked.now.request.now.what }
     requires trial { (first : ℕ) × first ≤ 1 × IsTrialOf shown.old.contents asked.now.request.now.what asked.now.at first shown.old.looks edit step }
     ensures contents { shown.new.contents ≡ shown.old.contents }
-    ensures outcome { IfOk result (IsOutcomeFor shown.old.contents asked.now) }
+    ensures outcome { IfOk result (IsAcceptedOutcomeFor shown.old.contents asked.now) }
     ensures looked { IfOk result (λ x. AreLooksTo shown.old.contents asked.now.request.now.what x shown.new.looks) }
     ensures refused { IfErr result (λ r. r ≡ Refusal.Memory) }
 {
     small_steps_look_few();
-    let columns = columns_of(frame);
-    let Asked { clock, at, .. } = *asked;
+    let columns = columns_of(derived);
+    let DatedRequest { clock, at, .. } = *asked;
     let changes = noted_changes(alloc, shown, columns, clock, at, &step.notes)?;
     let Edit { keys, revision, .. } = edit;
-    let SmallStep { named, shift, .. } = step;
+    let SmallStep {
+        named,
+        figure_change,
+        ..
+    } = step;
     let writing = Writing {
         keys,
         revision,
-        shift,
+        figure_change,
     };
-    Ok(Outcome {
-        next: Next::Small(writing),
+    Ok(AcceptedOutcome {
+        next: NextPlan::Small(writing),
         named,
         changes,
     })

@@ -6,16 +6,16 @@ use Rattle.std.specs.FinSet.{contains}
 use Rattle.operation_graph.specs.Adjacency.{count_of}
 use Rattle.operation_graph.specs.Graphs.{Digraph, HasEdge, AreExactly, AreDifferent}
 use Rattle.operation_graph.proofs.Counts.{count_head, count_other, contains_counted, counted_contains, eqb_same, eqb_other}
-use Rattle.satisfaction.specs.declared.kept.Kept.{Kept}
-use Rattle.satisfaction.specs.Counters.{kept_at, is_satisfied_at, edge_count, one_if_waiting, unsatisfied_below, unsatisfied_count, waiting_count, leading_count, nothing_kept}
+use Rattle.satisfaction.specs.declared.nodes.WaitState.{WaitState}
+use Rattle.satisfaction.specs.Counters.{wait_state_at, is_satisfied_at, edge_count, one_if_waiting, unsatisfied_below, unsatisfied_count, waiting_count, leading_count, no_wait_state}
 
 -- ---- what is kept after a write
 
-pub kept_there : (kept : List Kept) (s : ℕ) (v : Kept) (n : ℕ) → s < length kept → n ≡ s → kept_at (set kept s v) n ≡ v
-kept_there kept s v n lt same = ap (λ m. get_or (set kept s v) m nothing_kept) same ∙ get_or-set_same kept s v nothing_kept lt
+pub kept_there : (wait_states : List WaitState) (s : ℕ) (v : WaitState) (n : ℕ) → s < length wait_states → n ≡ s → wait_state_at (set wait_states s v) n ≡ v
+kept_there wait_states s v n lt same = ap (λ m. get_or (set wait_states s v) m no_wait_state) same ∙ get_or-set_same wait_states s v no_wait_state lt
 
-pub kept_else : (kept : List Kept) (s : ℕ) (v : Kept) (n : ℕ) → n ≢ s → kept_at (set kept s v) n ≡ kept_at kept n
-kept_else kept s v n other = get_or-set_other kept s n v nothing_kept other
+pub kept_else : (wait_states : List WaitState) (s : ℕ) (v : WaitState) (n : ℕ) → n ≢ s → wait_state_at (set wait_states s v) n ≡ wait_state_at wait_states n
+kept_else wait_states s v n other = get_or-set_other wait_states s n v no_wait_state other
 
 -- ---- edges
 
@@ -34,14 +34,14 @@ one_is_edge g p n some = elim (cases_Bool (contains g.edges (p, n))) [
 -- ---- flags
 
 -- how many aren't satisfied goes by the flags alone
-pub unset_same : (g : Digraph) (a b : List Kept) (m n : ℕ) → ((p : ℕ) → p < m → is_satisfied_at a p ≡ is_satisfied_at b p) → unsatisfied_below g a m n ≡ unsatisfied_below g b m n
+pub unset_same : (g : Digraph) (a b : List WaitState) (m n : ℕ) → ((p : ℕ) → p < m → is_satisfied_at a p ≡ is_satisfied_at b p) → unsatisfied_below g a m n ≡ unsatisfied_below g b m n
 unset_same g a b zero n same = refl
 unset_same g a b (suc p) n same =
     let head : cond {A = ℕ} (is_satisfied_at a p) 0 (edge_count g p n) ≡ cond {A = ℕ} (is_satisfied_at b p) 0 (edge_count g p n) = ap (λ f. cond {A = ℕ} f 0 (edge_count g p n)) (same p (omega arith)) in
     omega (arith, head, unset_same g a b p n (λ q lt. same q (omega (arith, lt))))
 
 -- and by those of its predecessors
-pub unset_same_but : (g : Digraph) (a b : List Kept) (m n : ℕ) → ((p : ℕ) → p < m → (is_satisfied_at a p ≡ is_satisfied_at b p) ⊎ (edge_count g p n ≡ 0)) → unsatisfied_below g a m n ≡ unsatisfied_below g b m n
+pub unset_same_but : (g : Digraph) (a b : List WaitState) (m n : ℕ) → ((p : ℕ) → p < m → (is_satisfied_at a p ≡ is_satisfied_at b p) ⊎ (edge_count g p n ≡ 0)) → unsatisfied_below g a m n ≡ unsatisfied_below g b m n
 unset_same_but g a b zero n same = refl
 unset_same_but g a b (suc p) n same =
     let none : (f : Bool) → edge_count g p n ≡ 0 → cond {A = ℕ} f 0 (edge_count g p n) ≡ 0 = λ f e. ap (cond {A = ℕ} f 0) e ∙ elim f as (λ b. cond {A = ℕ} b 0 0 ≡ 0) [ true ↦ refl | false ↦ refl ] in
@@ -52,7 +52,7 @@ unset_same_but g a b (suc p) n same =
     omega (arith, head, unset_same_but g a b p n (λ q lt. same q (omega (arith, lt))))
 
 -- b has s satisfied, a hasn't, and else they agree
-pub unset_less : (g : Digraph) (a b : List Kept) (s m n : ℕ) → s < m → is_satisfied_at a s ≡ false → is_satisfied_at b s ≡ true → ((p : ℕ) → p ≢ s → is_satisfied_at a p ≡ is_satisfied_at b p)
+pub unset_less : (g : Digraph) (a b : List WaitState) (s m n : ℕ) → s < m → is_satisfied_at a s ≡ false → is_satisfied_at b s ≡ true → ((p : ℕ) → p ≢ s → is_satisfied_at a p ≡ is_satisfied_at b p)
     → unsatisfied_below g a m n ≡ unsatisfied_below g b m n + edge_count g s n
 unset_less g a b s zero n lt off on others = absurd (omega (arith, lt))
 unset_less g a b s (suc p) n lt off on others = elim (cases_eq p s) [
@@ -68,31 +68,31 @@ unset_less g a b s (suc p) n lt off on others = elim (cases_eq p s) [
 ]
 
 -- none is unset just where each predecessor is satisfied
-pub set_if_none : (g : Digraph) (kept : List Kept) (m n p : ℕ) → unsatisfied_below g kept m n ≡ 0 → p < m → HasEdge g p n → is_satisfied_at kept p ≡ true
-set_if_none g kept zero n p none lt e = absurd (omega (arith, lt))
-set_if_none g kept (suc q) n p none lt e = elim (cases_eq p q) [
-  | inl same ↦ elim (cases_Bool (is_satisfied_at kept p)) [
+pub set_if_none : (g : Digraph) (wait_states : List WaitState) (m n p : ℕ) → unsatisfied_below g wait_states m n ≡ 0 → p < m → HasEdge g p n → is_satisfied_at wait_states p ≡ true
+set_if_none g wait_states zero n p none lt e = absurd (omega (arith, lt))
+set_if_none g wait_states (suc q) n p none lt e = elim (cases_eq p q) [
+  | inl same ↦ elim (cases_Bool (is_satisfied_at wait_states p)) [
     | inl there ↦ there
     | inr absent ↦
-        let x : cond {A = ℕ} (is_satisfied_at kept q) 0 (edge_count g q n) ≡ 1 =
-        ap (λ r. cond {A = ℕ} (is_satisfied_at kept r) 0 (edge_count g r n)) (sym same) ∙ ap (λ f. cond {A = ℕ} f 0 (edge_count g p n)) absent ∙ edge_is_one g p n e in
+        let x : cond {A = ℕ} (is_satisfied_at wait_states q) 0 (edge_count g q n) ≡ 1 =
+        ap (λ r. cond {A = ℕ} (is_satisfied_at wait_states r) 0 (edge_count g r n)) (sym same) ∙ ap (λ f. cond {A = ℕ} f 0 (edge_count g p n)) absent ∙ edge_is_one g p n e in
         absurd (omega (arith, none, x))
   ]
-  | inr other ↦ set_if_none g kept q n p (omega (arith, none)) (omega (arith, lt, other)) e
+  | inr other ↦ set_if_none g wait_states q n p (omega (arith, none)) (omega (arith, lt, other)) e
 ]
 
-pub none_if_set : (g : Digraph) (kept : List Kept) (m n : ℕ) → ((p : ℕ) → p < m → HasEdge g p n → is_satisfied_at kept p ≡ true) → unsatisfied_below g kept m n ≡ 0
-none_if_set g kept zero n all = refl
-none_if_set g kept (suc p) n all = elim (cases_Bool (contains g.edges (p, n))) [
+pub none_if_set : (g : Digraph) (wait_states : List WaitState) (m n : ℕ) → ((p : ℕ) → p < m → HasEdge g p n → is_satisfied_at wait_states p ≡ true) → unsatisfied_below g wait_states m n ≡ 0
+none_if_set g wait_states zero n all = refl
+none_if_set g wait_states (suc p) n all = elim (cases_Bool (contains g.edges (p, n))) [
   | inl there ↦
-      let x : cond {A = ℕ} (is_satisfied_at kept p) 0 (edge_count g p n) ≡ 0 = ap (λ f. cond {A = ℕ} f 0 (edge_count g p n)) (all p (omega arith) there) in
-      omega (arith, x, none_if_set g kept p n (λ q lt. all q (omega (arith, lt))))
+      let x : cond {A = ℕ} (is_satisfied_at wait_states p) 0 (edge_count g p n) ≡ 0 = ap (λ f. cond {A = ℕ} f 0 (edge_count g p n)) (all p (omega arith) there) in
+      omega (arith, x, none_if_set g wait_states p n (λ q lt. all q (omega (arith, lt))))
   | inr absent ↦
-      let x : cond {A = ℕ} (is_satisfied_at kept p) 0 (edge_count g p n) ≤ 0 = elim (cases_Bool (is_satisfied_at kept p)) [
+      let x : cond {A = ℕ} (is_satisfied_at wait_states p) 0 (edge_count g p n) ≤ 0 = elim (cases_Bool (is_satisfied_at wait_states p)) [
         | inl on ↦ omega (arith, ap (λ f. cond {A = ℕ} f 0 (edge_count g p n)) on)
         | inr off ↦ omega (arith, ap (λ f. cond {A = ℕ} f 0 (edge_count g p n)) off, no_edge_is_none g p n absent)
       ] in
-      omega (arith, x, none_if_set g kept p n (λ q lt. all q (omega (arith, lt))))
+      omega (arith, x, none_if_set g wait_states p n (λ q lt. all q (omega (arith, lt))))
 ]
 
 one_at_most : (g : Digraph) (p n : ℕ) → edge_count g p n ≤ 1
@@ -102,11 +102,11 @@ one_at_most g p n = elim (cases_Bool (contains g.edges (p, n))) [
 ]
 
 -- they are no more than the nodes
-pub unset_at_most : (g : Digraph) (kept : List Kept) (m n : ℕ) → unsatisfied_below g kept m n ≤ m
-unset_at_most g kept zero n = omega arith
-unset_at_most g kept (suc p) n = elim (cases_Bool (is_satisfied_at kept p)) [
-  | inl on ↦ omega (arith, ap (λ f. cond {A = ℕ} f 0 (edge_count g p n)) on, unset_at_most g kept p n)
-  | inr off ↦ omega (arith, ap (λ f. cond {A = ℕ} f 0 (edge_count g p n)) off, one_at_most g p n, unset_at_most g kept p n)
+pub unset_at_most : (g : Digraph) (wait_states : List WaitState) (m n : ℕ) → unsatisfied_below g wait_states m n ≤ m
+unset_at_most g wait_states zero n = omega arith
+unset_at_most g wait_states (suc p) n = elim (cases_Bool (is_satisfied_at wait_states p)) [
+  | inl on ↦ omega (arith, ap (λ f. cond {A = ℕ} f 0 (edge_count g p n)) on, unset_at_most g wait_states p n)
+  | inr off ↦ omega (arith, ap (λ f. cond {A = ℕ} f 0 (edge_count g p n)) off, one_at_most g p n, unset_at_most g wait_states p n)
 ]
 
 -- ---- the nodes at work, and the successors of one
@@ -143,37 +143,37 @@ listed_is_one g p xs exact n = elim (cases_Bool (contains g.edges (p, n))) [
 
 -- ---- the measure
 
-pub unsatisfied_count_less : (kept : List Kept) (s : ℕ) (v : Kept) → s < length kept → is_satisfied_at kept s ≡ false → v.satisfied ≡ true → unsatisfied_count (set kept s v) + 1 ≡ unsatisfied_count kept
+pub unsatisfied_count_less : (wait_states : List WaitState) (s : ℕ) (v : WaitState) → s < length wait_states → is_satisfied_at wait_states s ≡ false → v.satisfied ≡ true → unsatisfied_count (set wait_states s v) + 1 ≡ unsatisfied_count wait_states
 unsatisfied_count_less [] s v lt off on = absurd (omega (arith, lt))
-unsatisfied_count_less (k ∷ kept) zero v lt off on =
+unsatisfied_count_less (k ∷ wait_states) zero v lt off on =
     let x : cond {A = ℕ} k.satisfied 0 1 ≡ 1 = ap (λ f. cond {A = ℕ} f 0 1) off in
     let y : cond {A = ℕ} v.satisfied 0 1 ≡ 0 = ap (λ f. cond {A = ℕ} f 0 1) on in
     omega (arith, x, y)
-unsatisfied_count_less (k ∷ kept) (suc s) v lt off on = omega (arith, unsatisfied_count_less kept s v (omega (arith, lt)) off on)
+unsatisfied_count_less (k ∷ wait_states) (suc s) v lt off on = omega (arith, unsatisfied_count_less wait_states s v (omega (arith, lt)) off on)
 
-pub unsatisfied_count_same : (kept : List Kept) (s : ℕ) (v : Kept) → v.satisfied ≡ is_satisfied_at kept s → unsatisfied_count (set kept s v) ≡ unsatisfied_count kept
+pub unsatisfied_count_same : (wait_states : List WaitState) (s : ℕ) (v : WaitState) → v.satisfied ≡ is_satisfied_at wait_states s → unsatisfied_count (set wait_states s v) ≡ unsatisfied_count wait_states
 unsatisfied_count_same [] s v same = refl
-unsatisfied_count_same (k ∷ kept) zero v same = ap (λ f. cond {A = ℕ} f 0 1 + unsatisfied_count kept) same
-unsatisfied_count_same (k ∷ kept) (suc s) v same = ap (λ m. cond {A = ℕ} k.satisfied 0 1 + m) (unsatisfied_count_same kept s v same)
+unsatisfied_count_same (k ∷ wait_states) zero v same = ap (λ f. cond {A = ℕ} f 0 1 + unsatisfied_count wait_states) same
+unsatisfied_count_same (k ∷ wait_states) (suc s) v same = ap (λ m. cond {A = ℕ} k.satisfied 0 1 + m) (unsatisfied_count_same wait_states s v same)
 
 -- ---- how many wait
 
-pub satisfied_is_none : (k : Kept) → k.satisfied ≡ true → one_if_waiting k ≡ 0
+pub satisfied_is_none : (k : WaitState) → k.satisfied ≡ true → one_if_waiting k ≡ 0
 satisfied_is_none k on = ap (λ f. cond {A = ℕ} f 0 (cond {A = ℕ} (eqb k.waiting 0) 0 1)) on
 
-unsatisfied_is : (k : Kept) → k.satisfied ≡ false → one_if_waiting k ≡ cond {A = ℕ} (eqb k.waiting 0) 0 1
+unsatisfied_is : (k : WaitState) → k.satisfied ≡ false → one_if_waiting k ≡ cond {A = ℕ} (eqb k.waiting 0) 0 1
 unsatisfied_is k off = ap (λ f. cond {A = ℕ} f 0 (cond {A = ℕ} (eqb k.waiting 0) 0 1)) off
 
-pub free_is_none : (k : Kept) → k.waiting ≡ 0 → one_if_waiting k ≡ 0
+pub free_is_none : (k : WaitState) → k.waiting ≡ 0 → one_if_waiting k ≡ 0
 free_is_none k free = elim (cases_Bool k.satisfied) [
   | inl on ↦ satisfied_is_none k on
   | inr off ↦ unsatisfied_is k off ∙ ap (λ b. cond {A = ℕ} b 0 1) (eqb_same k.waiting 0 free)
 ]
 
-pub waiting_is_one : (k : Kept) → k.satisfied ≡ false → 0 < k.waiting → one_if_waiting k ≡ 1
+pub waiting_is_one : (k : WaitState) → k.satisfied ≡ false → 0 < k.waiting → one_if_waiting k ≡ 1
 waiting_is_one k off waits = unsatisfied_is k off ∙ ap (λ b. cond {A = ℕ} b 0 1) (eqb_other k.waiting 0 (λ e. omega (arith, e, waits)))
 
-pub one_if_waiting_at_most : (k : Kept) → one_if_waiting k ≤ 1
+pub one_if_waiting_at_most : (k : WaitState) → one_if_waiting k ≤ 1
 one_if_waiting_at_most k = elim (cases_Bool k.satisfied) [
   | inl on ↦ omega (arith, satisfied_is_none k on)
   | inr off ↦ elim (cases_eq k.waiting 0) [
@@ -182,14 +182,14 @@ one_if_waiting_at_most k = elim (cases_Bool k.satisfied) [
   ]
 ]
 
-pub waiting_alike : (a b : Kept) → a.satisfied ≡ b.satisfied → a.waiting ≡ b.waiting → one_if_waiting a ≡ one_if_waiting b
+pub waiting_alike : (a b : WaitState) → a.satisfied ≡ b.satisfied → a.waiting ≡ b.waiting → one_if_waiting a ≡ one_if_waiting b
 waiting_alike a b same_flag same_waiting = ap₂ (λ f n. cond {A = ℕ} f 0 (cond {A = ℕ} (eqb n 0) 0 1)) same_flag same_waiting
 
 -- a write takes away what stood there and adds what stands there now
-pub waiting_count_set : (kept : List Kept) (s : ℕ) (v : Kept) → s < length kept → waiting_count (set kept s v) + one_if_waiting (kept_at kept s) ≡ waiting_count kept + one_if_waiting v
+pub waiting_count_set : (wait_states : List WaitState) (s : ℕ) (v : WaitState) → s < length wait_states → waiting_count (set wait_states s v) + one_if_waiting (wait_state_at wait_states s) ≡ waiting_count wait_states + one_if_waiting v
 waiting_count_set [] s v lt = absurd (omega (arith, lt))
-waiting_count_set (k ∷ kept) zero v lt = omega arith
-waiting_count_set (k ∷ kept) (suc s) v lt = omega (arith, waiting_count_set kept s v (omega (arith, lt)))
+waiting_count_set (k ∷ wait_states) zero v lt = omega arith
+waiting_count_set (k ∷ wait_states) (suc s) v lt = omega (arith, waiting_count_set wait_states s v (omega (arith, lt)))
 
 -- how many of these numbers are at least k
 abbrev count_from : ℕ → List ℕ → ℕ
@@ -225,13 +225,13 @@ from_next k (x ∷ xs) = elim (cases_eq x k) [
 ]
 
 -- more wait by no more than there are nodes where more may
-pub fewer_waiting : (a b : List Kept) (xs : List ℕ) → length a ≡ length b → ((n : ℕ) → n < length a → ¬ Contains xs n → one_if_waiting (kept_at a n) ≤ one_if_waiting (kept_at b n)) → waiting_count a ≤ waiting_count b + length xs
+pub fewer_waiting : (a b : List WaitState) (xs : List ℕ) → length a ≡ length b → ((n : ℕ) → n < length a → ¬ Contains xs n → one_if_waiting (wait_state_at a n) ≤ one_if_waiting (wait_state_at b n)) → waiting_count a ≤ waiting_count b + length xs
 fewer_waiting a b xs size each = let some = go 0 a b size (λ n lt out. each n lt (subst (λ m. ¬ Contains xs m) (plain n) out)) in omega (arith, some, from_at_most 0 xs)
   where
     plain : (n : ℕ) → 0 + n ≡ n
     plain n = omega arith
 
-    go : (k : ℕ) (a b : List Kept) → length a ≡ length b → ((n : ℕ) → n < length a → ¬ Contains xs (k + n) → one_if_waiting (kept_at a n) ≤ one_if_waiting (kept_at b n)) → waiting_count a ≤ waiting_count b + count_from k xs
+    go : (k : ℕ) (a b : List WaitState) → length a ≡ length b → ((n : ℕ) → n < length a → ¬ Contains xs (k + n) → one_if_waiting (wait_state_at a n) ≤ one_if_waiting (wait_state_at b n)) → waiting_count a ≤ waiting_count b + count_from k xs
     go k [] b size each = omega arith
     go k (x ∷ a) [] size each = absurd (omega (arith, size))
     go k (x ∷ a) (y ∷ b) size each =

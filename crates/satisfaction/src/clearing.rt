@@ -1,14 +1,14 @@
 // What a rerun takes back.
 ghost use Rattle.std.specs.Prelude.{◌≡◌, ◌⊎◌, ◌+◌, ◌<◌, ◌≤◌, ℕ, [], ◌∷◌, ◌++◌, List, All, Contains, length, OnOk};
 ghost use Rattle.operation_graph.specs.Graphs.{Digraph, HasEdge, IsGraph};
-ghost use Rattle.satisfaction.specs.Counters.{AreRight, kept_at, waiting_at, waiting_count, with_one_more};
+ghost use Rattle.satisfaction.specs.Counters.{AreRight, wait_state_at, waiting_at, waiting_count, with_one_more};
 ghost use Rattle.satisfaction.specs.Changes.{AreAround, HoldFollowers, IsClearing, IsRerun};
-ghost use Rattle.satisfaction.specs.declared.kept.Kept.{Kept as KeptValue};
-ghost use Rattle.satisfaction.specs.declared.kept.Rule.{Rule as RuleValue};
+ghost use Rattle.satisfaction.specs.declared.nodes.WaitState.{WaitState as WaitStateValue};
+ghost use Rattle.satisfaction.specs.declared.nodes.Rule.{Rule as RuleValue};
 ghost use Rattle.satisfaction.specs.Journal.{IsJournaled};
 
 use super::journal::write;
-use super::kept::Kept;
+use super::nodes::WaitState;
 use super::rules::Rules;
 use super::settling::settle;
 use operation_graph::Graph;
@@ -16,46 +16,46 @@ use std::alloc::{AllocError, Global};
 
 /// One predecessor more to wait for.
 pub fn raise(
-    kept: &mut [Kept],
-    journal: &mut Vec<(usize, Kept)>,
+    wait_states: &mut [WaitState],
+    journal: &mut Vec<(usize, WaitState)>,
     node: usize,
 ) -> Result<(), AllocError>
-    requires node { node < length kept.old }
-    requires below { waiting_at kept.old node < length kept.old }
-    ensures kept { OnOk result (kept.new ≡ with_one_more kept.old node) }
-    ensures noted { OnOk result (journal.new.items ≡ journal.old.items ++ (node, kept_at kept.old node) ∷ []) }
-    ensures journaled { IsJournaled kept.old journal.old.items kept.new journal.new.items }
+    requires node { node < length wait_states.old }
+    requires below { waiting_at wait_states.old node < length wait_states.old }
+    ensures wait_states { OnOk result (wait_states.new ≡ with_one_more wait_states.old node) }
+    ensures noted { OnOk result (journal.new.items ≡ journal.old.items ++ (node, wait_state_at wait_states.old node) ∷ []) }
+    ensures journaled { IsJournaled wait_states.old journal.old.items wait_states.new journal.new.items }
 {
-    let old = kept[node];
-    let new = Kept {
+    let old = wait_states[node];
+    let new = WaitState {
         waiting: old.waiting + 1,
         ..old
     };
-    write(kept, journal, node, new)
+    write(wait_states, journal, node, new)
 }
 
 /// A node isn't satisfied any more, where it was, and its successors have one more to wait for.
 fn clear(
     graph: &Graph,
-    kept: &mut [Kept],
-    journal: &mut Vec<(usize, Kept)>,
+    wait_states: &mut [WaitState],
+    journal: &mut Vec<(usize, WaitState)>,
     node: usize,
 ) -> Result<(), AllocError>
     requires node { node < graph.now.nodes }
-    requires cleared { (start : List Kept) × (gone : List ℕ) × IsClearing graph.now start gone kept.old [] }
-    ensures places { OnOk result ((e : ℕ × KeptValue) → Contains journal.new.items e → Contains journal.old.items e ⊎ ((e.0 ≡ node) ⊎ HasEdge graph.now node e.0)) }
-    ensures step { OnOk result ((start : List Kept) (gone : List ℕ) → IsClearing graph.now start gone kept.old [] → IsClearing graph.now start (node ∷ gone) kept.new []) }
-    ensures journaled { IsJournaled kept.old journal.old.items kept.new journal.new.items }
+    requires cleared { (start : List WaitState) × (gone : List ℕ) × IsClearing graph.now start gone wait_states.old [] }
+    ensures places { OnOk result ((e : ℕ × WaitStateValue) → Contains journal.new.items e → Contains journal.old.items e ⊎ ((e.0 ≡ node) ⊎ HasEdge graph.now node e.0)) }
+    ensures step { OnOk result ((start : List WaitState) (gone : List ℕ) → IsClearing graph.now start gone wait_states.old [] → IsClearing graph.now start (node ∷ gone) wait_states.new []) }
+    ensures journaled { IsJournaled wait_states.old journal.old.items wait_states.new journal.new.items }
 {
-    let old = kept[node];
+    let old = wait_states[node];
     if old.satisfied {
-        let new = Kept {
+        let new = WaitState {
             satisfied: false,
             ..old
         };
-        write(kept, journal, node, new)?;
+        write(wait_states, journal, node, new)?;
         for succ in graph.succs(node) {
-            raise(kept, journal, *succ)?;
+            raise(wait_states, journal, *succ)?;
         }
     }
     Ok(())
@@ -71,22 +71,22 @@ pub fn rerun<R: Rules>(
     alloc: Global,
     graph: &Graph,
     rules: &mut R,
-    kept: &mut [Kept],
-    journal: &mut Vec<(usize, Kept)>,
+    wait_states: &mut [WaitState],
+    journal: &mut Vec<(usize, WaitState)>,
     reached: &[usize],
 ) -> Result<(), AllocError>
     requires graph { IsGraph graph.now }
-    requires rerun { (before : List RuleValue) × AreRight graph.now before kept.old × IsRerun graph.now before reached.now (R.listed rules.old) }
-    ensures right { OnOk result (AreRight graph.now (R.listed rules.old) kept.new) }
+    requires rerun { (before : List RuleValue) × AreRight graph.now before wait_states.old × IsRerun graph.now before reached.now (R.listed rules.old) }
+    ensures right { OnOk result (AreRight graph.now (R.listed rules.old) wait_states.new) }
     ensures rules { R.listed rules.new ≡ R.listed rules.old }
     ensures source { R.source rules.new ≡ R.source rules.old }
     ensures fewest { R.looks rules.old ≤ R.looks rules.new }
-    ensures most { OnOk result ((followers : List ℕ) → HoldFollowers graph.now reached.now followers → R.looks rules.new + waiting_count kept.new ≤ R.looks rules.old + length reached.now + length followers + waiting_count kept.old) }
-    ensures places { OnOk result (AreAround graph.now reached.now kept.old journal.old.items kept.new journal.new.items) }
-    ensures journaled { IsJournaled kept.old journal.old.items kept.new journal.new.items }
+    ensures most { OnOk result ((followers : List ℕ) → HoldFollowers graph.now reached.now followers → R.looks rules.new + waiting_count wait_states.new ≤ R.looks rules.old + length reached.now + length followers + waiting_count wait_states.old) }
+    ensures places { OnOk result (AreAround graph.now reached.now wait_states.old journal.old.items wait_states.new journal.new.items) }
+    ensures journaled { IsJournaled wait_states.old journal.old.items wait_states.new journal.new.items }
 {
     for node in reached {
-        clear(graph, kept, journal, *node)?;
+        clear(graph, wait_states, journal, *node)?;
     }
-    settle(alloc, graph, rules, kept, journal, reached)
+    settle(alloc, graph, rules, wait_states, journal, reached)
 }

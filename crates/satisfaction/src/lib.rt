@@ -4,13 +4,13 @@
 
 mod clearing;
 mod journal;
-mod kept;
+mod nodes;
 mod rules;
 mod settling;
 
 pub use clearing::rerun;
 pub use journal::{take_back, write};
-pub use kept::{Kept, Rule};
+pub use nodes::{Rule, WaitState};
 pub use operation_graph::Graph;
 pub use rules::Rules;
 pub use settling::{settle, settle_up};

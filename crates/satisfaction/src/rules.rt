@@ -1,9 +1,9 @@
 // The rules of nodes, asked for one at a time.
 ghost use Rattle.std.specs.Prelude.{◌≡◌, ◌+◌, ◌<◌, ◌≤◌, ℕ, List, length};
-ghost use Rattle.satisfaction.specs.declared.kept.Rule.{Rule as RuleValue};
+ghost use Rattle.satisfaction.specs.declared.nodes.Rule.{Rule as RuleValue};
 ghost use Rattle.satisfaction.specs.Counters.{rule_at};
 
-use super::kept::Rule;
+use super::nodes::Rule;
 
 /// What says when each node is satisfied, as a plan's records do. A caller that counts how many records it looks at counts them
 /// here.

@@ -3,11 +3,11 @@ ghost use Rattle.std.specs.Prelude.{◌≡◌, ◌⊎◌, ◌+◌, ◌*◌, ◌<
 ghost use Rattle.operation_graph.specs.Graphs.{Digraph, IsGraph};
 ghost use Rattle.satisfaction.specs.Counters.{AreRight, IsCascade, IsPassing, waiting_at, waiting_count, unsatisfied_count};
 ghost use Rattle.satisfaction.specs.Changes.{IsLowering, IsUpward};
-ghost use Rattle.satisfaction.specs.declared.kept.Rule.{Rule as RuleValue};
+ghost use Rattle.satisfaction.specs.declared.nodes.Rule.{Rule as RuleValue};
 ghost use Rattle.satisfaction.specs.Journal.{IsJournaled};
 
 use super::journal::write;
-use super::kept::{Kept, Rule};
+use super::nodes::{Rule, WaitState};
 use super::rules::Rules;
 use operation_graph::Graph;
 use std::alloc::{AllocError, Global};
@@ -22,32 +22,32 @@ fn is_due(rule: Rule, waiting: usize) -> bool
 /// Takes up a node that was changed: where its rule says that it is satisfied, it is so from now on, and put to work.
 fn take_up<R: Rules>(
     rules: &mut R,
-    kept: &mut [Kept],
-    journal: &mut Vec<(usize, Kept)>,
+    wait_states: &mut [WaitState],
+    journal: &mut Vec<(usize, WaitState)>,
     work: &mut Vec<usize>,
     node: usize,
 ) -> Result<(), AllocError>
-    requires node { node < length kept.old }
-    requires rules { length (R.listed rules.old) ≡ length kept.old }
-    ensures step { OnOk result ((g : Digraph) (pending : List ℕ) → IsGraph g → IsCascade g (R.listed rules.old) (node ∷ pending) kept.old work.old.items [] → IsCascade g (R.listed rules.old) pending kept.new work.new.items []) }
+    requires node { node < length wait_states.old }
+    requires rules { length (R.listed rules.old) ≡ length wait_states.old }
+    ensures step { OnOk result ((g : Digraph) (pending : List ℕ) → IsGraph g → IsCascade g (R.listed rules.old) (node ∷ pending) wait_states.old work.old.items [] → IsCascade g (R.listed rules.old) pending wait_states.new work.new.items []) }
     ensures rules { R.listed rules.new ≡ R.listed rules.old }
     ensures source { R.source rules.new ≡ R.source rules.old }
     ensures fewest { R.looks rules.old ≤ R.looks rules.new }
-    ensures most { OnOk result (R.looks rules.new + waiting_count kept.new ≤ R.looks rules.old + 1 + waiting_count kept.old) }
-    ensures places { OnOk result (IsLowering (node ∷ []) kept.old journal.old.items kept.new journal.new.items) }
-    ensures journaled { IsJournaled kept.old journal.old.items kept.new journal.new.items }
+    ensures most { OnOk result (R.looks rules.new + waiting_count wait_states.new ≤ R.looks rules.old + 1 + waiting_count wait_states.old) }
+    ensures places { OnOk result (IsLowering (node ∷ []) wait_states.old journal.old.items wait_states.new journal.new.items) }
+    ensures journaled { IsJournaled wait_states.old journal.old.items wait_states.new journal.new.items }
 {
-    let old = kept[node];
+    let old = wait_states[node];
     if old.satisfied {
         return Ok(());
     }
     let rule = rules.rule_of(node);
     if is_due(rule, old.waiting) {
-        let new = Kept {
+        let new = WaitState {
             satisfied: true,
             ..old
         };
-        write(kept, journal, node, new)?;
+        write(wait_states, journal, node, new)?;
         work.push(node)?;
     }
     Ok(())
@@ -74,31 +74,31 @@ fn passes_now<R: Rules>(rules: &mut R, node: usize, satisfied: bool, waiting: us
 /// to work.
 fn lower<R: Rules>(
     rules: &mut R,
-    kept: &mut [Kept],
-    journal: &mut Vec<(usize, Kept)>,
+    wait_states: &mut [WaitState],
+    journal: &mut Vec<(usize, WaitState)>,
     work: &mut Vec<usize>,
     node: usize,
 ) -> Result<(), AllocError>
-    requires node { node < length kept.old }
-    requires rules { length (R.listed rules.old) ≡ length kept.old }
-    requires waits { 0 < waiting_at kept.old node }
-    ensures step { OnOk result ((g : Digraph) (rest : List ℕ) → IsGraph g → IsCascade g (R.listed rules.old) [] kept.old work.old.items (node ∷ rest) → IsCascade g (R.listed rules.old) [] kept.new work.new.items rest) }
-    ensures nearer { OnOk result (2 * unsatisfied_count kept.new + vec_len work.new ≤ 2 * unsatisfied_count kept.old + vec_len work.old) }
+    requires node { node < length wait_states.old }
+    requires rules { length (R.listed rules.old) ≡ length wait_states.old }
+    requires waits { 0 < waiting_at wait_states.old node }
+    ensures step { OnOk result ((g : Digraph) (rest : List ℕ) → IsGraph g → IsCascade g (R.listed rules.old) [] wait_states.old work.old.items (node ∷ rest) → IsCascade g (R.listed rules.old) [] wait_states.new work.new.items rest) }
+    ensures nearer { OnOk result (2 * unsatisfied_count wait_states.new + vec_len work.new ≤ 2 * unsatisfied_count wait_states.old + vec_len work.old) }
     ensures rules { R.listed rules.new ≡ R.listed rules.old }
     ensures source { R.source rules.new ≡ R.source rules.old }
     ensures fewest { R.looks rules.old ≤ R.looks rules.new }
-    ensures most { OnOk result (R.looks rules.new + waiting_count kept.new ≤ R.looks rules.old + waiting_count kept.old) }
-    ensures places { OnOk result (IsLowering [] kept.old journal.old.items kept.new journal.new.items) }
-    ensures journaled { IsJournaled kept.old journal.old.items kept.new journal.new.items }
+    ensures most { OnOk result (R.looks rules.new + waiting_count wait_states.new ≤ R.looks rules.old + waiting_count wait_states.old) }
+    ensures places { OnOk result (IsLowering [] wait_states.old journal.old.items wait_states.new journal.new.items) }
+    ensures journaled { IsJournaled wait_states.old journal.old.items wait_states.new journal.new.items }
 {
-    let old = kept[node];
+    let old = wait_states[node];
     let waiting = old.waiting - 1;
     let passes = passes_now(rules, node, old.satisfied, waiting);
-    let new = Kept {
+    let new = WaitState {
         satisfied: old.satisfied || passes,
         waiting,
     };
-    write(kept, journal, node, new)?;
+    write(wait_states, journal, node, new)?;
     if passes {
         work.push(node)?;
     }
@@ -108,24 +108,24 @@ fn lower<R: Rules>(
 /// One predecessor less to wait for, for each of these nodes.
 fn lower_all<R: Rules>(
     rules: &mut R,
-    kept: &mut [Kept],
-    journal: &mut Vec<(usize, Kept)>,
+    wait_states: &mut [WaitState],
+    journal: &mut Vec<(usize, WaitState)>,
     work: &mut Vec<usize>,
     nodes: &[usize],
 ) -> Result<(), AllocError>
-    requires rules { length (R.listed rules.old) ≡ length kept.old }
-    requires cascade { (g : Digraph) × IsGraph g × IsCascade g (R.listed rules.old) [] kept.old work.old.items nodes.now }
-    ensures step { OnOk result ((g : Digraph) → IsGraph g → IsCascade g (R.listed rules.old) [] kept.old work.old.items nodes.now → IsCascade g (R.listed rules.old) [] kept.new work.new.items []) }
-    ensures nearer { OnOk result (2 * unsatisfied_count kept.new + vec_len work.new ≤ 2 * unsatisfied_count kept.old + vec_len work.old) }
+    requires rules { length (R.listed rules.old) ≡ length wait_states.old }
+    requires cascade { (g : Digraph) × IsGraph g × IsCascade g (R.listed rules.old) [] wait_states.old work.old.items nodes.now }
+    ensures step { OnOk result ((g : Digraph) → IsGraph g → IsCascade g (R.listed rules.old) [] wait_states.old work.old.items nodes.now → IsCascade g (R.listed rules.old) [] wait_states.new work.new.items []) }
+    ensures nearer { OnOk result (2 * unsatisfied_count wait_states.new + vec_len work.new ≤ 2 * unsatisfied_count wait_states.old + vec_len work.old) }
     ensures rules { R.listed rules.new ≡ R.listed rules.old }
     ensures source { R.source rules.new ≡ R.source rules.old }
     ensures fewest { R.looks rules.old ≤ R.looks rules.new }
-    ensures most { OnOk result (R.looks rules.new + waiting_count kept.new ≤ R.looks rules.old + waiting_count kept.old) }
-    ensures places { OnOk result (IsLowering [] kept.old journal.old.items kept.new journal.new.items) }
-    ensures journaled { IsJournaled kept.old journal.old.items kept.new journal.new.items }
+    ensures most { OnOk result (R.looks rules.new + waiting_count wait_states.new ≤ R.looks rules.old + waiting_count wait_states.old) }
+    ensures places { OnOk result (IsLowering [] wait_states.old journal.old.items wait_states.new journal.new.items) }
+    ensures journaled { IsJournaled wait_states.old journal.old.items wait_states.new journal.new.items }
 {
     for node in nodes {
-        lower(rules, kept, journal, work, *node)?;
+        lower(rules, wait_states, journal, work, *node)?;
     }
     Ok(())
 }
@@ -137,22 +137,22 @@ fn lower_all<R: Rules>(
 fn spread<R: Rules>(
     graph: &Graph,
     rules: &mut R,
-    kept: &mut [Kept],
-    journal: &mut Vec<(usize, Kept)>,
+    wait_states: &mut [WaitState],
+    journal: &mut Vec<(usize, WaitState)>,
     work: &mut Vec<usize>,
 ) -> Result<(), AllocError>
     requires graph { IsGraph graph.now }
-    requires begun { IsCascade graph.now (R.listed rules.old) [] kept.old work.old.items [] }
-    ensures right { OnOk result (AreRight graph.now (R.listed rules.old) kept.new) }
+    requires begun { IsCascade graph.now (R.listed rules.old) [] wait_states.old work.old.items [] }
+    ensures right { OnOk result (AreRight graph.now (R.listed rules.old) wait_states.new) }
     ensures rules { R.listed rules.new ≡ R.listed rules.old }
     ensures source { R.source rules.new ≡ R.source rules.old }
     ensures fewest { R.looks rules.old ≤ R.looks rules.new }
-    ensures most { OnOk result (R.looks rules.new + waiting_count kept.new ≤ R.looks rules.old + waiting_count kept.old) }
-    ensures places { OnOk result (IsLowering [] kept.old journal.old.items kept.new journal.new.items) }
-    ensures journaled { IsJournaled kept.old journal.old.items kept.new journal.new.items }
+    ensures most { OnOk result (R.looks rules.new + waiting_count wait_states.new ≤ R.looks rules.old + waiting_count wait_states.old) }
+    ensures places { OnOk result (IsLowering [] wait_states.old journal.old.items wait_states.new journal.new.items) }
+    ensures journaled { IsJournaled wait_states.old journal.old.items wait_states.new journal.new.items }
 {
     while let Some(node) = work.pop() {
-        lower_all(rules, kept, journal, work, graph.succs(node))?;
+        lower_all(rules, wait_states, journal, work, graph.succs(node))?;
     }
     Ok(())
 }
@@ -166,26 +166,26 @@ pub fn settle<R: Rules>(
     alloc: Global,
     graph: &Graph,
     rules: &mut R,
-    kept: &mut [Kept],
-    journal: &mut Vec<(usize, Kept)>,
+    wait_states: &mut [WaitState],
+    journal: &mut Vec<(usize, WaitState)>,
     changed: &[usize],
 ) -> Result<(), AllocError>
     requires graph { IsGraph graph.now }
-    requires changed { All (λ n. n < length kept.old) changed.now }
-    requires begun { IsCascade graph.now (R.listed rules.old) changed.now kept.old [] [] }
-    ensures right { OnOk result (AreRight graph.now (R.listed rules.old) kept.new) }
+    requires changed { All (λ n. n < length wait_states.old) changed.now }
+    requires begun { IsCascade graph.now (R.listed rules.old) changed.now wait_states.old [] [] }
+    ensures right { OnOk result (AreRight graph.now (R.listed rules.old) wait_states.new) }
     ensures rules { R.listed rules.new ≡ R.listed rules.old }
     ensures source { R.source rules.new ≡ R.source rules.old }
     ensures fewest { R.looks rules.old ≤ R.looks rules.new }
-    ensures most { OnOk result (R.looks rules.new + waiting_count kept.new ≤ R.looks rules.old + length changed.now + waiting_count kept.old) }
-    ensures places { OnOk result (IsLowering changed.now kept.old journal.old.items kept.new journal.new.items) }
-    ensures journaled { IsJournaled kept.old journal.old.items kept.new journal.new.items }
+    ensures most { OnOk result (R.looks rules.new + waiting_count wait_states.new ≤ R.looks rules.old + length changed.now + waiting_count wait_states.old) }
+    ensures places { OnOk result (IsLowering changed.now wait_states.old journal.old.items wait_states.new journal.new.items) }
+    ensures journaled { IsJournaled wait_states.old journal.old.items wait_states.new journal.new.items }
 {
     let mut work = Vec::new(alloc);
     for node in changed {
-        take_up(rules, kept, journal, &mut work, *node)?;
+        take_up(rules, wait_states, journal, &mut work, *node)?;
     }
-    spread(graph, rules, kept, journal, &mut work)
+    spread(graph, rules, wait_states, journal, &mut work)
 }
 
 /// After a change of some nodes' rules by which none stops being satisfied, as where operations are deleted, or one is completed,
@@ -197,19 +197,19 @@ pub fn settle_up<R: Rules>(
     alloc: Global,
     graph: &Graph,
     rules: &mut R,
-    kept: &mut [Kept],
-    journal: &mut Vec<(usize, Kept)>,
+    wait_states: &mut [WaitState],
+    journal: &mut Vec<(usize, WaitState)>,
     changed: &[usize],
 ) -> Result<(), AllocError>
     requires graph { IsGraph graph.now }
-    requires up { (before : List RuleValue) × AreRight graph.now before kept.old × IsUpward graph.now before kept.old changed.now (R.listed rules.old) }
-    ensures right { OnOk result (AreRight graph.now (R.listed rules.old) kept.new) }
+    requires up { (before : List RuleValue) × AreRight graph.now before wait_states.old × IsUpward graph.now before wait_states.old changed.now (R.listed rules.old) }
+    ensures right { OnOk result (AreRight graph.now (R.listed rules.old) wait_states.new) }
     ensures rules { R.listed rules.new ≡ R.listed rules.old }
     ensures source { R.source rules.new ≡ R.source rules.old }
     ensures fewest { R.looks rules.old ≤ R.looks rules.new }
-    ensures most { OnOk result (R.looks rules.new + waiting_count kept.new ≤ R.looks rules.old + length changed.now + waiting_count kept.old) }
-    ensures places { OnOk result (IsLowering changed.now kept.old journal.old.items kept.new journal.new.items) }
-    ensures journaled { IsJournaled kept.old journal.old.items kept.new journal.new.items }
+    ensures most { OnOk result (R.looks rules.new + waiting_count wait_states.new ≤ R.looks rules.old + length changed.now + waiting_count wait_states.old) }
+    ensures places { OnOk result (IsLowering changed.now wait_states.old journal.old.items wait_states.new journal.new.items) }
+    ensures journaled { IsJournaled wait_states.old journal.old.items wait_states.new journal.new.items }
 {
-    settle(alloc, graph, rules, kept, journal, changed)
+    settle(alloc, graph, rules, wait_states, journal, changed)
 }

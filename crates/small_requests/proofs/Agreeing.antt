@@ -3,7 +3,7 @@ use Rattle.std.proofs.Common.{◌≡◌, sym, ap, subst, ◌∙◌, arith, ℕ, 
 use Rattle.std.proofs.lemmas.Option.{slice_get_within, some_pair_parts}
 use Rattle.std.specs.FinMap.{entries}
 use Rattle.plan_basics.specs.declared.keys.OpKey.{OpKey}
-use Rattle.satisfaction.specs.declared.kept.Kept.{Kept}
+use Rattle.satisfaction.specs.declared.nodes.WaitState.{WaitState}
 use Rattle.plan_drafts.proofs.RowPlaces.{row_at}
 use Rattle.plan_checks.specs.plan_laws.proofs.Classes.{satisfied_decides}
 use Rattle.plan_checks.specs.plan_laws.proofs.Standing.{one_status}
@@ -12,15 +12,15 @@ use Rattle.plan_model.specs.Contents.{Contents, Operation}
 use Rattle.plan_model.specs.Status.{HasStatus, IsSatisfied}
 use Rattle.plan_model.specs.Valid.{IsValid}
 use Rattle.plan_model.specs.Moves.{IsRemarkedAt}
-use Rattle.plan_checks.specs.derived_figures.specs.Kept.{IsKept}
+use Rattle.plan_checks.specs.derived_figures.specs.WaitStates.{IsKept}
 use Rattle.plan_rows.specs.Touched.{HasOneOf}
 use Rattle.plan_checks.specs.plan_status.specs.Standings.{IsStanding, IsTally}
 use Rattle.small_requests.proofs.Alike.{alike_at, one_standing, one_tally, one_truth, tally_after}
 use Rattle.small_requests.proofs.Overwritten.{values_lead}
-use Rattle.small_requests.specs.Columns.{AreColumnsOf, IsExcerptOf, MakesOf}
+use Rattle.small_requests.specs.Columns.{AreColumnsOf, IsSnapshotOf, MakesOf}
 use Rattle.small_requests.specs.Touched.{IsTouchedAt}
 use Rattle.small_requests.specs.declared.columns.FigureColumns.{FigureColumns}
-use Rattle.small_requests.specs.declared.excerpts.Excerpt.{Excerpt}
+use Rattle.small_requests.specs.declared.snapshots.Snapshot.{Snapshot}
 use Rattle.status_rules.specs.Classes.{is_satisfied}
 
 module _ (P Q : Contents) (valid : IsValid P) (valid_after : IsValid Q) (touched : List ℕ) (at_touched : IsTouchedAt P Q touched) (l m : FigureColumns) (are : AreColumnsOf P l) (then : AreColumnsOf Q m) where
@@ -30,7 +30,7 @@ module _ (P Q : Contents) (valid : IsValid P) (valid_after : IsValid Q) (touched
   -- ---- operations
 
   -- what is kept of one that isn't touched stays
-  kept_stays : (i : ℕ) → ¬ Contains touched i → (o : OpKey) (op : Operation) → slice_get (entries P.operations) i ≡ Some (o, op) → (x y : Kept) → IsKept P o x → IsKept Q o y → x ≡ y
+  kept_stays : (i : ℕ) → ¬ Contains touched i → (o : OpKey) (op : Operation) → slice_get (entries P.operations) i ≡ Some (o, op) → (x y : WaitState) → IsKept P o x → IsKept Q o y → x ≡ y
   kept_stays i out o op at x y was is =
       let within = slice_get_within (entries P.operations) i (o, op) at in
       let s = row_at l.standings.items i (omega (arith, within, are.standings.size)) in
@@ -44,8 +44,8 @@ module _ (P Q : Contents) (valid : IsValid P) (valid_after : IsValid Q) (touched
       let waiting : x.waiting ≡ y.waiting = one_count _ x.waiting s.0.waiting was.1 stood.waiting ∙ sym (one_count _ y.waiting s.0.waiting is.1 (same.0 s.0 stood).waiting) in
       λ j. record { satisfied = satisfied j; waiting = waiting j }
 
-  pub kept_agree : (i : ℕ) → ¬ Contains touched i → slice_get m.kept.items i ≡ slice_get l.kept.items i
-  kept_agree i out = alike_at (entries P.operations) (entries Q.operations) (IsKept P) (IsKept Q) l.kept.items m.kept.items moved.size are.kept then.kept i
+  pub kept_agree : (i : ℕ) → ¬ Contains touched i → slice_get m.wait_states.items i ≡ slice_get l.wait_states.items i
+  kept_agree i out = alike_at (entries P.operations) (entries Q.operations) (IsKept P) (IsKept Q) l.wait_states.items m.wait_states.items moved.size are.wait_states then.wait_states i
       (λ o op at. let row = moved.rows i o op at in (row.before, row.was, kept_stays i out o row.before row.was))
 
   pub standings_agree : (i : ℕ) → ¬ Contains touched i → slice_get m.standings.items i ≡ slice_get l.standings.items i
@@ -92,9 +92,9 @@ module _ (P Q : Contents) (valid : IsValid P) (valid_after : IsValid Q) (touched
   same_size = sym moved.size
 
   -- what the plan has after, where something is touched, leads there
-  pub leads_on : (x : Excerpt) → IsExcerptOf Q touched m x → MakesOf x l m
+  pub leads_on : (x : Snapshot) → IsSnapshotOf Q touched m x → MakesOf x l m
   leads_on x is = record {
-    kept = values_lead (Contains touched) x.kept.items l.kept.items m.kept.items is.kept (are.kept.size ∙ same_size ∙ sym then.kept.size) (λ i out. sym (kept_agree i out));
+    wait_states = values_lead (Contains touched) x.wait_states.items l.wait_states.items m.wait_states.items is.wait_states (are.wait_states.size ∙ same_size ∙ sym then.wait_states.size) (λ i out. sym (kept_agree i out));
     standings = values_lead (Contains touched) x.standings.items l.standings.items m.standings.items is.standings (are.standings.size ∙ same_size ∙ sym then.standings.size) (λ i out. sym (standings_agree i out));
     statuses = values_lead (Contains touched) x.statuses.items l.statuses.items m.statuses.items is.statuses (are.statuses.size ∙ same_size ∙ sym then.statuses.size) (λ i out. sym (statuses_agree i out));
     tallies = values_lead (HasOneOf Q touched) x.tallies.items l.tallies.items m.tallies.items is.tallies (are.tallies.size ∙ ap length (sym same_occurrences) ∙ sym then.tallies.size)
@@ -102,9 +102,9 @@ module _ (P Q : Contents) (valid : IsValid P) (valid_after : IsValid Q) (touched
   }
 
   -- and what it had there before leads back
-  pub leads_back : (x : Excerpt) → IsExcerptOf Q touched l x → MakesOf x m l
+  pub leads_back : (x : Snapshot) → IsSnapshotOf Q touched l x → MakesOf x m l
   leads_back x was = record {
-    kept = values_lead (Contains touched) x.kept.items m.kept.items l.kept.items was.kept (then.kept.size ∙ sym same_size ∙ sym are.kept.size) kept_agree;
+    wait_states = values_lead (Contains touched) x.wait_states.items m.wait_states.items l.wait_states.items was.wait_states (then.wait_states.size ∙ sym same_size ∙ sym are.wait_states.size) kept_agree;
     standings = values_lead (Contains touched) x.standings.items m.standings.items l.standings.items was.standings (then.standings.size ∙ sym same_size ∙ sym are.standings.size) standings_agree;
     statuses = values_lead (Contains touched) x.statuses.items m.statuses.items l.statuses.items was.statuses (then.statuses.size ∙ sym same_size ∙ sym are.statuses.size) statuses_agree;
     tallies = values_lead (HasOneOf Q touched) x.tallies.items m.tallies.items l.tallies.items was.tallies (then.tallies.size ∙ ap length same_occurrences ∙ sym are.tallies.size)
@@ -112,9 +112,9 @@ module _ (P Q : Contents) (valid : IsValid P) (valid_after : IsValid Q) (touched
   }
 
   -- so does what it was told to have there of the plan before
-  pub leads_home : (x : Excerpt) → IsExcerptOf P touched l x → MakesOf x m l
+  pub leads_home : (x : Snapshot) → IsSnapshotOf P touched l x → MakesOf x m l
   leads_home x was = record {
-    kept = values_lead (Contains touched) x.kept.items m.kept.items l.kept.items was.kept (then.kept.size ∙ sym same_size ∙ sym are.kept.size) kept_agree;
+    wait_states = values_lead (Contains touched) x.wait_states.items m.wait_states.items l.wait_states.items was.wait_states (then.wait_states.size ∙ sym same_size ∙ sym are.wait_states.size) kept_agree;
     standings = values_lead (Contains touched) x.standings.items m.standings.items l.standings.items was.standings (then.standings.size ∙ sym same_size ∙ sym are.standings.size) standings_agree;
     statuses = values_lead (Contains touched) x.statuses.items m.statuses.items l.statuses.items was.statuses (then.statuses.size ∙ sym same_size ∙ sym are.statuses.size) statuses_agree;
     tallies = values_lead (HasOneOf P touched) x.tallies.items m.tallies.items l.tallies.items was.tallies (then.tallies.size ∙ ap length same_occurrences ∙ sym are.tallies.size) tallies_agree;

@@ -20,7 +20,7 @@ use Rattle.plan_model.specs.Moves.{IsRemarkedAt}
 use Rattle.plan_records.specs.Rows.{IsCount}
 use Rattle.plan_checks.specs.start_choice.specs.Choices.{AreLatestStarts}
 use Rattle.plan_rows.specs.Shown.{IsShown, known_of}
-use Rattle.plan_rows.specs.declared.shown.RowSource.{RowSource}
+use Rattle.plan_rows.specs.declared.row_sources.RowSource.{RowSource}
 use Rattle.plan_checks.specs.plan_status.proofs.Alike.{count_alike}
 use Rattle.plan_checks.specs.plan_status.proofs.LoadedRows.{row_found, row_of}
 use Rattle.plan_checks.specs.plan_status.proofs.OfOccurrences.{IsOfIts, IsStarted}

@@ -7,7 +7,7 @@ use Rattle.plan_records.specs.declared.What.{What}
 use Rattle.plan_records.specs.declared.What.TheVariants as what
 use Rattle.plan_drafts.proofs.Lists.{contains_head, contains_none}
 use Rattle.plan_model.specs.Contents.{Contents, IsLive, Precedes}
-use Rattle.small_requests.specs.KeptEdits.{Edits, target_of}
+use Rattle.small_requests.specs.RequestEdits.{Edits, target_of}
 
 -- what there is, as a list
 abbrev pub listed : Option OpKey → List OpKey

@@ -10,7 +10,7 @@ use Rattle.plan_basics.specs.Refusals.{NoneRefuses}
 use Rattle.plan_basics.specs.declared.Refusal.TheVariants as refusal
 use Rattle.plan_basics.specs.declared.keys.OpKey.{OpKey}
 use Rattle.small_requests.proofs.Targets.{target_in_plan}
-use Rattle.small_requests.specs.KeptEdits.{Edits, IsEditedAt, IsSmall}
+use Rattle.small_requests.specs.RequestEdits.{Edits, IsEditedAt, IsSmall}
 use Rattle.operation_graph.specs.Paths.{IsPathBy, end_of}
 use Rattle.plan_drafts.specs.PlanGraphs.{StandAt}
 use Rattle.plan_checks.specs.plan_laws.proofs.Every.{every_change_keeps_sound}

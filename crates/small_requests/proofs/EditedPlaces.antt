@@ -10,7 +10,7 @@ use Rattle.plan_records.specs.declared.What.{What}
 use Rattle.plan_records.specs.declared.What.TheVariants as what
 use Rattle.small_requests.proofs.KeyedPlaces.{places_alike}
 use Rattle.small_requests.proofs.Targets.{edits_target}
-use Rattle.small_requests.specs.KeptEdits.{ArePlacesWhere, Edits, IsEditedAt, IsRerun, target_of}
+use Rattle.small_requests.specs.RequestEdits.{ArePlacesWhere, Edits, IsEditedAt, IsRerun, target_of}
 
 pub not_rerun : (w : What) → ((o : OpKey) → w ≡ what.Rerun o → ⊥) → ¬ IsRerun w
 not_rerun (what.Rerun o) never = λ rerun. never o refl

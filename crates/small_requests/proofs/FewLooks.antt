@@ -164,8 +164,8 @@ preceding Q o = count_by (λ x. same o x.1) (set.items Q.pairs)
 few_successors : (Q : Contents) (o : OpKey) → length (successors Q o) ≤ following Q o
 few_successors Q o =
     let whole = length_map (λ (x : OpKey × OpKey). x.1) (filter (λ x. same o x.0) (set.items Q.pairs)) in
-    let kept = length-filter (λ x. same o x.0) (set.items Q.pairs) in
-    omega (arith, whole, kept)
+    let wait_states = length-filter (λ x. same o x.0) (set.items Q.pairs) in
+    omega (arith, whole, wait_states)
 
 -- no pair leads from an operation to itself, so none is counted twice
 both_ways : (Q : Contents) → IsAcyclic Q.pairs → (o : OpKey) → neighbours Q o ≡ following Q o + preceding Q o

@@ -4,7 +4,7 @@ use Rattle.std.proofs.lemmas.Option.{same_Some}
 use Rattle.std.specs.FinMap.{get, same_map}
 use Rattle.plan_basics.specs.Keys.{operation_cmp_total, operation_cmp-IsAntisymmetric}
 use Rattle.plan_basics.specs.declared.keys.OpKey.{OpKey}
-use Rattle.small_requests.specs.KeptEdits.{Edits}
+use Rattle.small_requests.specs.RequestEdits.{Edits}
 use Rattle.plan_checks.specs.plan_laws.proofs.Revised.{get-revised}
 use Rattle.plan_model.proofs.Looks.{same_key}
 use Rattle.plan_model.specs.Contents.{Contents, Operation}

@@ -15,7 +15,7 @@ use Rattle.plan_model.proofs.Members.{if_member, member_if}
 use Rattle.plan_model.specs.Contents.{Contents, IsInPlan, Operation}
 use Rattle.plan_checks.specs.plan_status.proofs.RowKeys.{key_of_row}
 use Rattle.ready_list.specs.Choice.{is_among}
-use Rattle.small_requests.specs.KeptEdits.{ArePlacesOf, ArePlacesWhere}
+use Rattle.small_requests.specs.RequestEdits.{ArePlacesOf, ArePlacesWhere}
 
 module _ (P : Contents) (os : List OpKey) (places : List ℕ) (stand : StandAt (keys P.operations) places os) where
   abbrev nodes : List OpKey

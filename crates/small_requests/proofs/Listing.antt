@@ -5,7 +5,7 @@ use Rattle.plan_drafts.specs.Places.{AreStatuses}
 use Rattle.plan_model.specs.Contents.{Contents}
 use Rattle.plan_model.specs.Valid.{IsSound}
 use Rattle.plan_model.specs.Moves.{IsMovedAt, IsRemarkedAt}
-use Rattle.plan_checks.specs.derived_figures.proofs.RestatingMoved.{moved_back, remarked_by}
+use Rattle.plan_checks.specs.derived_figures.proofs.StatusesKept.{moved_back, remarked_by}
 use Rattle.plan_checks.specs.derived_figures.proofs.Read.{entries_are, entries_by, entries_remarked}
 use Rattle.plan_checks.specs.derived_figures.specs.ByStatuses.{HasRoomForAll}
 use Rattle.plan_checks.specs.derived_figures.specs.Entries.{AreEntriesAt, CanBeRelisted}
@@ -48,7 +48,7 @@ goes_before P Q moved_at moved starts before after = goes_after Q P moved_at (re
 pub room_after : (P Q : Contents) (moved_at : List ℕ) → IsMovedAt P Q moved_at → (r : ReadyEntries) → IsReadyListOf P r → HasRoomForAll Q r
 room_after P Q moved_at moved r list = subst (λ n. n ≤ length r.entries + r.room) (sym moved.size) list.room
 
--- by an excerpt's statuses and the entries at its places it can be led on
+-- by a snapshot's statuses and the entries at its places it can be led on
 pub relistable : (P : Contents) (statuses : List Status) (r : ReadyEntries) → GoesByStatuses P statuses r → (values : List (ℕ × Status)) (to : List Status) → LeadsTo values statuses to
     → (places : List ℕ) → map (λ (e : ℕ × Status). e.0) values ≡ places → (es : List ReadyEntry) → AreEntriesAt P places es → CanBeRelisted P statuses r values es
 relistable P statuses r goes values to leads places in_order es noted = record {

@@ -11,15 +11,15 @@ use Rattle.small_requests.proofs.OneFrame.{graph_stays}
 use Rattle.plan_checks.specs.plan_laws.proofs.Sorted.{sorted_unique}
 use Rattle.plan_model.specs.Contents.{Contents}
 use Rattle.small_requests.specs.StepLooks.{AreBoth, IsStepLooked}
-use Rattle.plan_checks.specs.derived_figures.specs.Beside.{is_place_among, places_beside}
+use Rattle.plan_checks.specs.derived_figures.specs.UnknownPlaces.{is_place_among, unknown_places}
 use Rattle.plan_rows.specs.Notes.{operations_noted}
-use Rattle.plan_rows.specs.declared.notes.ChangeBeside.{ChangeBeside}
+use Rattle.plan_rows.specs.declared.notes.FacilityChange.{FacilityChange}
 use Rattle.small_requests.proofs.MovedColumns.{then}
-use Rattle.small_requests.specs.Following.{IsMovedStepOf}
+use Rattle.small_requests.specs.Effects.{IsMovedStepOf}
 use Rattle.small_requests.specs.Groundworks.{HasGroundwork, IsCounted}
 use Rattle.small_requests.specs.declared.columns.FigureColumns.{FigureColumns}
 use Rattle.small_requests.specs.declared.edits.Edit.{Edit}
-use Rattle.small_requests.specs.declared.following.SmallStep.{SmallStep}
+use Rattle.small_requests.specs.declared.named_steps.SmallStep.{SmallStep}
 use Rattle.small_requests.specs.declared.groundwork.Groundwork.{Groundwork}
 use Rattle.ready_list.proofs.Members.{contains_filter, contains_from_filter}
 use Rattle.ready_list.specs.Entries.{ReadyEntries}
@@ -37,9 +37,9 @@ abbrev pub is_beside : List ℕ → ℕ → Bool
 is_beside moved i = not (is_place_among moved i)
 
 -- of what is touched, what wasn't moved is what is named and wasn't moved
-pub touched_beside : (moved places touched : List ℕ) → IsStrictlySortedBy nat_cmp places → AreBoth moved places touched → places_beside moved touched ≡ places_beside moved places
+pub touched_beside : (moved places touched : List ℕ) → IsStrictlySortedBy nat_cmp places → AreBoth moved places touched → unknown_places moved touched ≡ unknown_places moved places
 touched_beside moved places touched ascend both =
-    sorted_unique nat_cmp_total (places_beside moved touched) (places_beside moved places)
+    sorted_unique nat_cmp_total (unknown_places moved touched) (unknown_places moved places)
     (IsStrictlySortedBy-filter nat_cmp (is_beside moved) touched both.ascend) (IsStrictlySortedBy-filter nat_cmp (is_beside moved) places ascend)
     (λ i has.
     let from = contains_from_filter (is_beside moved) touched i has in
@@ -55,21 +55,21 @@ from_before before between n m after le same (inl most) = inl most
 from_before before between n m after le same (inr more) = inr (omega (arith, le, same, more))
 
 -- the looks of a step are those of what is counted anew and taken anew, of what is moved, and of what is named and noted
-pub step_looked : (P Q : Contents) (e : Edit) (starts : List ℤ) (l : FigureColumns) (r : ReadyEntries) (g : Groundwork) (has : HasGroundwork P Q e.places.items starts l r g) (m : ℕ) (b : ChangeBeside) (before between after : ℕ) (s : SmallStep)
-    → before ≤ between → IsCounted Q e 2 l.kept.items (then P Q e.places.items starts l r g has) g.touched.items before between → IsMovedStepOf Q m g.touched.items b between after s
+pub step_looked : (P Q : Contents) (e : Edit) (starts : List ℤ) (l : FigureColumns) (r : ReadyEntries) (g : Groundwork) (has : HasGroundwork P Q e.places.items starts l r g) (m : ℕ) (b : FacilityChange) (before between after : ℕ) (s : SmallStep)
+    → before ≤ between → IsCounted Q e 2 l.wait_states.items (then P Q e.places.items starts l r g has) g.touched.items before between → IsMovedStepOf Q m g.touched.items b between after s
     → IsStepLooked P Q e.is_rerun e.places.items s.named.items (operations_noted s.notes) before after
 step_looked P Q e starts l r g has m b before between after s fewest counted (moved, from, to, is) =
     let on = has.worked_out.moved_on in
     let graph_after = graph_stays P Q e.places.items has.moved in
     record {
-      kept = l.kept.items;
+      wait_states = l.wait_states.items;
       kept_then = then P Q e.places.items starts l r g has;
-      are_kept = has.columns.kept;
+      are_kept = has.columns.wait_states;
       are_kept_then = on.kept_then;
       moved = g.touched.items;
       moved_ascend = on.touched.ascend;
       moved_within = λ i h. subst (λ n. i < n) has.moved.size (on.touched.within i h);
-      elsewhere = on.beside;
+      elsewhere = on.elsewhere;
       around = λ d graph. counted.around d (graph_after d graph);
       places = is.places;
       are_places = is.are_places;

@@ -11,7 +11,7 @@ use Rattle.operation_graph.proofs.Counts.{eqb_same}
 use Rattle.ready_list.proofs.Members.{contains_from_filter}
 use Rattle.plan_drafts.proofs.KeyPlaces.{one_place}
 use Rattle.plan_drafts.proofs.Lists.{contains_cases, contains_none}
-use Rattle.plan_checks.specs.derived_figures.specs.Beside.{is_place_among, places_beside}
+use Rattle.plan_checks.specs.derived_figures.specs.UnknownPlaces.{is_place_among, unknown_places}
 use Rattle.small_requests.proofs.FewLooks.{length_within, once_both}
 use Rattle.small_requests.proofs.PlaceKeys.{as_many, key_from, key_in, keys_at, once_at}
 use Rattle.small_requests.specs.StepLooks.{AreBoth}
@@ -25,32 +25,32 @@ among_there (p ∷ known) i has = elim (contains_cases p known i has) [
 
 module _ (ks : List OpKey) (sorted : IsStrictlySortedBy operation_cmp ks) (first second all : List ℕ) (ascend : IsStrictlySortedBy nat_cmp first) (ascend_too : IsStrictlySortedBy nat_cmp second) (both : AreBoth first second all)
     (within : (i : ℕ) → Contains all i → i < length ks) where
-  beside_in : (i : ℕ) → Contains (places_beside first second) i → Contains second i × ¬ Contains first i
+  beside_in : (i : ℕ) → Contains (unknown_places first second) i → Contains second i × ¬ Contains first i
   beside_in i has =
       let r = contains_from_filter (λ j. not (is_place_among first j)) second i has in
       (r.0, λ there. true≢false (sym r.1 ∙ ap not (among_there first i there)))
 
-  in_all : (k : OpKey) → Contains (keys_at ks first ++ keys_at ks (places_beside first second)) k → Contains (keys_at ks all) k
-  in_all k has = elim (Contains-append_cases (keys_at ks first) (keys_at ks (places_beside first second)) k has) [
+  in_all : (k : OpKey) → Contains (keys_at ks first ++ keys_at ks (unknown_places first second)) k → Contains (keys_at ks all) k
+  in_all k has = elim (Contains-append_cases (keys_at ks first) (keys_at ks (unknown_places first second)) k has) [
     | inl left ↦ let from = key_from ks first k left in key_in ks all from.0 k ((both.both from.0).1 (inl from.1)) from.2
-    | inr right ↦ let from = key_from ks (places_beside first second) k right in key_in ks all from.0 k ((both.both from.0).1 (inr (beside_in from.0 from.1).0)) from.2
+    | inr right ↦ let from = key_from ks (unknown_places first second) k right in key_in ks all from.0 k ((both.both from.0).1 (inr (beside_in from.0 from.1).0)) from.2
   ]
 
-  apart : (k : OpKey) → Contains (keys_at ks first) k → ¬ Contains (keys_at ks (places_beside first second)) k
+  apart : (k : OpKey) → Contains (keys_at ks first) k → ¬ Contains (keys_at ks (unknown_places first second)) k
   apart k left right =
       let a = key_from ks first k left in
-      let b = key_from ks (places_beside first second) k right in
+      let b = key_from ks (unknown_places first second) k right in
       (beside_in b.0 b.1).1 (subst (Contains first) (one_place operation_cmp_total ks sorted a.0 b.0 k a.2 b.2) a.1)
 
-  pub few_both : length first + length (places_beside first second) ≤ length all
+  pub few_both : length first + length (unknown_places first second) ≤ length all
   few_both = omega (
     arith,
     as_many ks first (λ i has. within i ((both.both i).1 (inl has))),
-    as_many ks (places_beside first second) (λ i has. within i ((both.both i).1 (inr (beside_in i has).0))),
+    as_many ks (unknown_places first second) (λ i has. within i ((both.both i).1 (inr (beside_in i has).0))),
     as_many ks all within,
-    length-append (keys_at ks first) (keys_at ks (places_beside first second)),
-    length_within (keys_at ks first ++ keys_at ks (places_beside first second)) (keys_at ks all)
-        (once_both (keys_at ks first) (keys_at ks (places_beside first second)) (once_at ks sorted first ascend)
-        (once_at ks sorted (places_beside first second) (IsStrictlySortedBy-filter nat_cmp (λ j. not (is_place_among first j)) second ascend_too)) apart)
+    length-append (keys_at ks first) (keys_at ks (unknown_places first second)),
+    length_within (keys_at ks first ++ keys_at ks (unknown_places first second)) (keys_at ks all)
+        (once_both (keys_at ks first) (keys_at ks (unknown_places first second)) (once_at ks sorted first ascend)
+        (once_at ks sorted (unknown_places first second) (IsStrictlySortedBy-filter nat_cmp (λ j. not (is_place_among first j)) second ascend_too)) apart)
         in_all,
   )

@@ -15,7 +15,7 @@ use Rattle.small_requests.proofs.NewMarks.{still_live, unmoved}
 use Rattle.small_requests.proofs.Rerunning.{reruns_go_on}
 use Rattle.small_requests.proofs.SmallMoves.{small_requests_move}
 use Rattle.small_requests.proofs.Targets.{edited_are_unsatisfied}
-use Rattle.small_requests.specs.KeptEdits.{ArePlacesWhere, Edits, IsEditedAt, IsRerun, IsSmall}
+use Rattle.small_requests.specs.RequestEdits.{ArePlacesWhere, Edits, IsEditedAt, IsRerun, IsSmall}
 use Rattle.plan_drafts.proofs.KeyPlaces.{one_place}
 use Rattle.plan_drafts.proofs.RowPlaces.{row_at}
 use Rattle.plan_model.proofs.Entries.{entries_in_order}
@@ -39,7 +39,7 @@ use Rattle.small_requests.proofs.Requested.{same_everywhere}
 use Rattle.small_requests.specs.EditedKeys.{AreEditedKeys}
 use Rattle.small_requests.specs.Edits.{IsEditFor, IsEditOf, IsNotedEdit, edited}
 use Rattle.small_requests.specs.Idle.{IsIdle, IsOfNothing}
-use Rattle.small_requests.specs.Revisions.{HasPlaceFor, beside, written}
+use Rattle.small_requests.specs.Revisions.{HasPlaceFor, with_facilities, written}
 use Rattle.small_requests.specs.declared.edits.Edit.{Edit}
 
 -- a rerun is of an operation
@@ -122,7 +122,7 @@ module _ (P : Contents) (n : Edit) (nothing : IsOfNothing n) where
       follow = λ yes g graph i j has edge. absurd (no_place i has);
     });
     has_place = subst (HasPlaceFor P) (sym nothing.revision) tt;
-    remarks = subst (λ x. DifferInMarks (beside x P) (written n.keys.items x P) n.keys.items) (sym nothing.revision) (same_everywhere P n.keys.items);
+    remarks = subst (λ x. DifferInMarks (with_facilities x P) (written n.keys.items x P) n.keys.items) (sym nothing.revision) (same_everywhere P n.keys.items);
     marked = ap (map (marking_at P)) nothing.keys ∙ sym (ap (map Some) nothing.marks);
   }
 

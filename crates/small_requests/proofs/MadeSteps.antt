@@ -3,42 +3,42 @@ use Rattle.std.proofs.Common.{◌≡◌, ◌⊎◌, refl, sym, ap, subst, arith,
 use Rattle.plan_basics.specs.declared.Refusal.{Refusal}
 use Rattle.plan_basics.specs.declared.keys.OpKey.{OpKey}
 use Rattle.small_requests.proofs.OneFrame.{frame_stays}
-use Rattle.small_requests.specs.KeptEdits.{ArePlacesOf}
+use Rattle.small_requests.specs.RequestEdits.{ArePlacesOf}
 use Rattle.operation_graph.specs.Graphs.{Digraph}
 use Rattle.plan_checks.specs.start_choice.specs.Choices.{AreLatestStarts}
 use Rattle.plan_checks.specs.plan_laws.proofs.Kept.{choice_keeps_sound}
 use Rattle.plan_model.specs.Contents.{Contents}
 use Rattle.plan_model.specs.Ready.{IsChosen, named}
 use Rattle.plan_checks.specs.derived_figures.specs.Figures.{KeepsFrame}
-use Rattle.plan_checks.specs.derived_figures.proofs.RestatingMoved.{remarked_by}
+use Rattle.plan_checks.specs.derived_figures.proofs.StatusesKept.{remarked_by}
 use Rattle.plan_checks.specs.derived_figures.proofs.Read.{noted_after}
-use Rattle.plan_checks.specs.derived_figures.specs.Beside.{places_beside}
+use Rattle.plan_checks.specs.derived_figures.specs.UnknownPlaces.{unknown_places}
 use Rattle.plan_checks.specs.derived_figures.specs.Entries.{AreEntriesAt}
 use Rattle.plan_rows.specs.Notes.{operations_noted}
-use Rattle.plan_rows.specs.Touched.{StaysBeside}
-use Rattle.plan_rows.specs.declared.notes.ChangeBeside.{ChangeBeside}
+use Rattle.plan_rows.specs.Touched.{IsFacilityChange}
+use Rattle.plan_rows.specs.declared.notes.FacilityChange.{FacilityChange}
 use Rattle.small_requests.proofs.ColumnParts.{are_columns, columns_alike, is_list}
 use Rattle.small_requests.proofs.Looked.{from_before, touched_beside}
 use Rattle.small_requests.proofs.MovedColumns.{then_known}
 use Rattle.small_requests.proofs.NamedFigures.{named_touched, naming_alike, naming_moved}
 use Rattle.small_requests.proofs.SmallSteps.{keeps_frame, step_notes, touched_by_both}
-use Rattle.small_requests.specs.Columns.{AreAlike, AreColumnsOf, AreSharesOf, IsReadyListOf, figures_of}
+use Rattle.small_requests.specs.Columns.{AreAlike, AreColumnsOf, AreAllocationsOf, IsReadyListOf, figures_of}
 use Rattle.small_requests.specs.Edits.{WasEdited}
-use Rattle.small_requests.specs.Following.{IsFollowed}
+use Rattle.small_requests.specs.Effects.{AreNamingEffects}
 use Rattle.small_requests.specs.Groundworks.{HasGroundwork, IsGroundwork}
 use Rattle.small_requests.specs.Naming.{AreNotesOf, AreStepNotes, IsStepOf}
-use Rattle.small_requests.specs.Shifts.{HasColumnsAt, IsShift}
+use Rattle.small_requests.specs.FigureChanges.{HasColumnsAt, IsFigureChange}
 use Rattle.small_requests.specs.Touched.{IsTouchedAt}
 use Rattle.small_requests.specs.declared.columns.FigureColumns.{FigureColumns}
-use Rattle.small_requests.specs.declared.columns.Shares.{Shares}
+use Rattle.small_requests.specs.declared.columns.Allocations.{Allocations}
 use Rattle.small_requests.specs.declared.edits.Edit.{Edit}
-use Rattle.small_requests.specs.declared.followed.Followed.{Followed}
-use Rattle.small_requests.specs.declared.following.SmallStep.{SmallStep}
+use Rattle.small_requests.specs.declared.naming_effects.NamingEffects.{NamingEffects}
+use Rattle.small_requests.specs.declared.named_steps.SmallStep.{SmallStep}
 use Rattle.small_requests.specs.declared.groundwork.Groundwork.{Groundwork}
 use Rattle.ready_list.specs.Entries.{ReadyEntries}
 use Rattle.ready_list.specs.declared.entry.ReadyEntry.{ReadyEntry}
 
-module _ (Q : Contents) (m : ℕ) (edited : List ℕ) (l : FigureColumns) (f : Followed) (is : IsFollowed Q m edited l f) (are : AreColumnsOf Q l) (starts : List ℤ) (latest : AreLatestStarts Q starts) where
+module _ (Q : Contents) (m : ℕ) (edited : List ℕ) (l : FigureColumns) (f : NamingEffects) (is : AreNamingEffects Q m edited l f) (are : AreColumnsOf Q l) (starts : List ℤ) (latest : AreLatestStarts Q starts) where
   abbrev os : List OpKey
   os = f.naming.named.items
 
@@ -52,15 +52,15 @@ module _ (Q : Contents) (m : ℕ) (edited : List ℕ) (l : FigureColumns) (f : F
       noted_after Q (named os Q) places moved starts latest ((frame_stays Q (named os Q) places moved (naming_alike Q m os is.naming.chosen places is.naming.places)).latest starts latest) f.touched.items f.entries.items is.entries
 
   -- what follows, with what was noted then, is a step
-  pub step_of : (ready : ReadyEntries) → IsReadyListOf Q ready → (b : ChangeBeside) (before between after : ℕ) → before ≤ between → between ≤ before + length ready.entries + length (places_beside edited f.touched.items)
+  pub step_of : (ready : ReadyEntries) → IsReadyListOf Q ready → (b : FacilityChange) (before between after : ℕ) → before ≤ between → between ≤ before + length ready.entries + length (unknown_places edited f.touched.items)
       → after ≤ between + length f.touched.items → (r : Result SmallStep Refusal)
-      → IfOk r (λ s. s.named ≡ f.naming.named) → IfOk r (λ s. s.shift.shares ≡ f.naming.shares) → IfOk r (λ s. s.shift.entries ≡ f.entries) → IfOk r (λ s. HasColumnsAt (named os Q) f.touched.items s.shift.columns)
+      → IfOk r (λ s. s.named ≡ f.naming.named) → IfOk r (λ s. s.figure_change.allocations ≡ f.naming.allocations) → IfOk r (λ s. s.figure_change.entries ≡ f.entries) → IfOk r (λ s. HasColumnsAt (named os Q) f.touched.items s.figure_change.columns)
       → IfOk r (λ s. AreNotesOf (named os Q) b f.touched.items s.notes) → IfOk r (λ s. operations_noted s.notes ≡ length f.touched.items)
       → IfOk r (λ s. (18446744073709551615 ≤ after) ⊎ (between + length f.touched.items ≤ after)) → IfOk r (IsStepOf Q m edited b before after)
-  step_of ready list b before between after later asked noted (Err e) named_is shares_are entries_are columns notes all_noted least = tt
-  step_of ready list b before between after later asked noted (Ok s) named_is shares_are entries_are columns notes all_noted least =
+  step_of ready list b before between after later asked noted (Err e) named_is allocations_are entries_are columns notes all_noted least = tt
+  step_of ready list b before between after later asked noted (Ok s) named_is allocations_are entries_are columns notes all_noted least =
       let same : os ≡ s.named.items = ap (λ (v : Vec OpKey Global). v.items) (sym named_is) in
-      let beside = ap length (touched_beside edited places f.touched.items is.naming.places.ascend is.joined) in
+      let uncounted = ap length (touched_beside edited places f.touched.items is.naming.places.ascend is.joined) in
       record {
         chosen = subst (IsChosen Q m) same is.naming.chosen;
         places = places;
@@ -69,18 +69,18 @@ module _ (Q : Contents) (m : ℕ) (edited : List ℕ) (l : FigureColumns) (f : F
         touched = f.touched.items;
         joined = is.joined;
         notes = subst (λ ks. AreNotesOf (named ks Q) b f.touched.items s.notes) same notes;
-        columns = subst (λ ks. HasColumnsAt (named ks Q) f.touched.items s.shift.columns) same columns;
-        entries = subst (λ ks. AreEntriesAt (named ks Q) f.touched.items s.shift.entries.items) same (subst (λ (es : Vec ReadyEntry Global). AreEntriesAt (named os Q) f.touched.items es.items) (sym entries_are) entries_named);
-        shares = subst (λ ks. AreSharesOf (named ks Q) s.shift.shares) same (subst (λ (z : Shares). AreSharesOf (named os Q) z) (sym shares_are) is.naming.shares);
+        columns = subst (λ ks. HasColumnsAt (named ks Q) f.touched.items s.figure_change.columns) same columns;
+        entries = subst (λ ks. AreEntriesAt (named ks Q) f.touched.items s.figure_change.entries.items) same (subst (λ (es : Vec ReadyEntry Global). AreEntriesAt (named os Q) f.touched.items es.items) (sym entries_are) entries_named);
+        allocations = subst (λ ks. AreAllocationsOf (named ks Q) s.figure_change.allocations) same (subst (λ (z : Allocations). AreAllocationsOf (named os Q) z) (sym allocations_are) is.naming.allocations);
         all_noted = all_noted;
         asked = ready.entries;
         are_asked = list.listed;
-        most = omega (arith, asked, noted, beside);
+        most = omega (arith, asked, noted, uncounted);
         fewest = from_before before between (length f.touched.items) (length f.touched.items) after later refl least;
       }
 
 -- what was worked out of an edit of P
-pub worked_out : (P Q : Contents) (e : Edit) (d : Digraph) (starts : List ℤ) (l : FigureColumns) (r : ReadyEntries) (s : Shares) → WasEdited P Q e d starts (figures_of l r s) → (m : FigureColumns) → AreAlike m l
+pub worked_out : (P Q : Contents) (e : Edit) (d : Digraph) (starts : List ℤ) (l : FigureColumns) (r : ReadyEntries) (s : Allocations) → WasEdited P Q e d starts (figures_of l r s) → (m : FigureColumns) → AreAlike m l
     → (g : Groundwork) → IsGroundwork Q e.places.items m g → HasGroundwork P Q e.places.items starts m r g
 worked_out P Q e d starts l r s was m alike g is = record {
   sound = was.sound;
@@ -93,7 +93,7 @@ worked_out P Q e d starts l r s was m alike g is = record {
   worked_out = is;
 }
 
-module _ (P Q : Contents) (edits : List ℕ) (starts : List ℤ) (l : FigureColumns) (r : ReadyEntries) (g : Groundwork) (has : HasGroundwork P Q edits starts l r g) (m : ℕ) (b : ChangeBeside) (before after : ℕ) (s : SmallStep) (is : IsStepOf Q m g.touched.items b before after s) where
+module _ (P Q : Contents) (edits : List ℕ) (starts : List ℤ) (l : FigureColumns) (r : ReadyEntries) (g : Groundwork) (has : HasGroundwork P Q edits starts l r g) (m : ℕ) (b : FacilityChange) (before after : ℕ) (s : SmallStep) (is : IsStepOf Q m g.touched.items b before after s) where
   -- no more is touched by it than its places
   pub step_touched : IsTouchedAt P (named s.named.items Q) is.touched
   step_touched =
@@ -105,8 +105,8 @@ module _ (P Q : Contents) (edits : List ℕ) (starts : List ℤ) (l : FigureColu
   step_frame = keeps_frame P Q m s.named.items is.chosen is.places is.are_places edits has.moved has.alike
 
   -- it leads from the one figures to the others
-  pub step_shift : IsShift P (named s.named.items Q) s.shift
-  step_shift = record {
+  pub step_figure_change : IsFigureChange P (named s.named.items Q) s.figure_change
+  step_figure_change = record {
     sound = has.sound;
     sound_after = choice_keeps_sound Q m s.named.items has.sound_after is.chosen;
     starts = starts;
@@ -116,9 +116,9 @@ module _ (P Q : Contents) (edits : List ℕ) (starts : List ℤ) (l : FigureColu
     at_touched = step_touched;
     columns = is.columns;
     entries = is.entries;
-    shares = is.shares;
+    allocations = is.allocations;
   }
 
   -- and its rows are noted
-  pub step_noted : StaysBeside b P Q → AreStepNotes P (named s.named.items Q) s.notes
+  pub step_noted : IsFacilityChange b P Q → AreStepNotes P (named s.named.items Q) s.notes
   step_noted stays = step_notes P Q s.named.items b stays step_frame.latest is.touched step_touched s.notes is.notes

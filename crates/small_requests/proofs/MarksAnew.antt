@@ -9,7 +9,7 @@ use Rattle.plan_basics.specs.declared.Attr.{Attr}
 use Rattle.plan_basics.specs.declared.Attr.TheVariants as attribute
 use Rattle.plan_basics.specs.declared.Refusal.TheVariants as refusal
 use Rattle.plan_basics.specs.declared.keys.OpKey.{OpKey}
-use Rattle.small_requests.specs.KeptEdits.{Edits, IsEditedAt, IsRerun, StandsAt, target_of}
+use Rattle.small_requests.specs.RequestEdits.{Edits, IsEditedAt, IsRerun, StandsAt, target_of}
 use Rattle.plan_drafts.proofs.EntryRows.{row_in}
 use Rattle.plan_drafts.proofs.Lists.{contains_none}
 use Rattle.plan_drafts.proofs.Tables.{is_found}

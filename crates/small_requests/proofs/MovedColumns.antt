@@ -1,8 +1,8 @@
 -- FigureColumns moved on by what was worked out of an edit.
 use Rattle.std.proofs.Common.{subst, ℕ, ℤ, ◌<◌, List}
-use Rattle.satisfaction.specs.declared.kept.Kept.{Kept}
+use Rattle.satisfaction.specs.declared.nodes.WaitState.{WaitState}
 use Rattle.plan_model.specs.Contents.{Contents}
-use Rattle.plan_checks.specs.derived_figures.proofs.RestatingMoved.{remarked_by}
+use Rattle.plan_checks.specs.derived_figures.proofs.StatusesKept.{remarked_by}
 use Rattle.small_requests.proofs.Agreeing.{leads_back}
 use Rattle.small_requests.proofs.KnownAlike.{known_alike}
 use Rattle.small_requests.specs.Columns.{AreColumnsOf, MakesOf}
@@ -19,13 +19,13 @@ module _ (P Q : Contents) (edits : List ℕ) (starts : List ℤ) (l : FigureColu
   touched = g.touched.items
 
   -- what is kept then
-  abbrev pub then : List Kept
-  then = overwritten g.kept.items l.kept.items
+  abbrev pub then : List WaitState
+  then = overwritten g.wait_states.items l.wait_states.items
 
   pub then_known : AreKnownAlike P Q touched
   then_known =
       let on = has.worked_out.moved_on in
-      known_alike P Q edits has.moved has.alike has.sound.valid has.sound_after.valid l.kept.items then has.columns.kept on.kept_then l.standings.items has.columns.standings touched on.touched.among on.beside
+      known_alike P Q edits has.moved has.alike has.sound.valid has.sound_after.valid l.wait_states.items then has.columns.wait_states on.kept_then l.standings.items has.columns.standings touched on.touched.among on.elsewhere
 
   -- no more than that is touched by the edit
   pub then_touched : IsTouchedAt P Q touched

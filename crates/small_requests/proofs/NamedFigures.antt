@@ -12,13 +12,13 @@ use Rattle.plan_drafts.proofs.MadeEntries.{entries-revise}
 use Rattle.plan_drafts.specs.Places.{AreByPlace}
 use Rattle.small_requests.proofs.ChosenEntries.{chosen_are_ready}
 use Rattle.small_requests.proofs.SmallMoves.{naming_moves}
-use Rattle.small_requests.specs.KeptEdits.{ArePlacesOf}
+use Rattle.small_requests.specs.RequestEdits.{ArePlacesOf}
 use Rattle.plan_checks.specs.plan_laws.proofs.Kept.{choice_keeps_sound}
 use Rattle.small_requests.proofs.OneFrame.{frame_stays}
 use Rattle.plan_checks.specs.start_choice.specs.Choices.{AreLatestStarts}
-use Rattle.plan_checks.specs.derived_figures.specs.Kept.{AreKept}
-use Rattle.satisfaction.specs.declared.kept.Kept.{Kept}
-use Rattle.plan_checks.specs.derived_figures.proofs.RestatingMoved.{remarked_by}
+use Rattle.plan_checks.specs.derived_figures.specs.WaitStates.{AreWaitStates}
+use Rattle.satisfaction.specs.declared.nodes.WaitState.{WaitState}
+use Rattle.plan_checks.specs.derived_figures.proofs.StatusesKept.{remarked_by}
 use Rattle.small_requests.specs.declared.columns.FigureColumns.{FigureColumns}
 use Rattle.ready_list.specs.Entries.{ReadyEntries}
 use Rattle.plan_checks.specs.plan_status.proofs.Naming.{naming_keeps_standings}
@@ -46,10 +46,10 @@ module _ (P : Contents) (m : ℕ) (os : List OpKey) (chosen : IsChosen P m os) w
     naming_alike = (naming_moves P os places (chosen_are_ready P m os chosen).0 are).1
 
     -- what is known of all others stays
-    pub named_alike : IsSound P → (kept : List Kept) → AreKept P kept → (standings : List Standing) → AreStandings P standings → AreKnownAlike P (named os P) places
-    named_alike sound kept were standings stood =
+    pub named_alike : IsSound P → (wait_states : List WaitState) → AreWaitStates P wait_states → (standings : List Standing) → AreStandings P standings → AreKnownAlike P (named os P) places
+    named_alike sound wait_states were standings stood =
         known_alike P (named os P) places naming_moved naming_alike sound.valid (choice_keeps_sound P m os sound chosen).valid
-        kept kept were (naming_keeps_kept P os (chosen_are_ready P m os chosen).0 kept were) standings stood
+        wait_states wait_states were (naming_keeps_kept P os (chosen_are_ready P m os chosen).0 wait_states were) standings stood
         places (λ i has. has) (λ i out. refl)
 
     -- so that no more is touched
@@ -58,7 +58,7 @@ module _ (P : Contents) (m : ℕ) (os : List OpKey) (chosen : IsChosen P m os) w
       moved = record { places = places; moved = remarked_by P (named os P) places naming_moved; among = λ i has. has };
       ascend = are.ascend;
       within = are.within;
-      same = named_alike sound l.kept.items columns.kept l.standings.items columns.standings;
+      same = named_alike sound l.wait_states.items columns.wait_states l.standings.items columns.standings;
     }
 
 -- ---- what is chosen was named
@@ -80,8 +80,8 @@ module _ (P R : Contents) (os : List OpKey) (places : List ℕ) (starts : List �
   abbrev chosen : IsChosen P m os
   chosen = was.chosen.1
 
-  abbrev kept : List Kept
-  kept = l.kept.items
+  abbrev wait_states : List WaitState
+  wait_states = l.wait_states.items
 
   pub moved_on : IsMovedAt P R places
   moved_on = subst (λ S. IsMovedAt P S places) (sym was.after) (naming_moved P m os chosen places was.places)
@@ -95,11 +95,11 @@ module _ (P R : Contents) (os : List OpKey) (places : List ℕ) (starts : List �
   pub latest_after : AreLatestStarts R starts
   latest_after = (frame_stays P R places moved_on alike_on).latest starts was.latest
 
-  pub kept_after : AreKept R kept
-  kept_after = subst (λ S. AreKept S kept) (sym was.after) (naming_keeps_kept P os (chosen_are_ready P m os chosen).0 kept was.columns.kept)
+  pub kept_after : AreWaitStates R wait_states
+  kept_after = subst (λ S. AreWaitStates S wait_states) (sym was.after) (naming_keeps_kept P os (chosen_are_ready P m os chosen).0 wait_states was.columns.wait_states)
 
   pub known_after : AreKnownAlike P R places
-  known_after = subst (λ S. AreKnownAlike P S places) (sym was.after) (named_alike P m os chosen places was.places was.sound kept was.columns.kept l.standings.items was.columns.standings)
+  known_after = subst (λ S. AreKnownAlike P S places) (sym was.after) (named_alike P m os chosen places was.places was.sound wait_states was.columns.wait_states l.standings.items was.columns.standings)
 
   pub sound_after : IsSound R
   sound_after = subst IsSound (sym was.after) (choice_keeps_sound P m os was.sound chosen)

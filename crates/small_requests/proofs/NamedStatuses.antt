@@ -10,10 +10,10 @@ use Rattle.plan_model.specs.Contents.{Contents, Operation}
 use Rattle.plan_model.specs.Ready.{with_mark}
 use Rattle.plan_model.specs.Status.{HasStatus, UnmarkedStatus}
 use Rattle.ready_list.specs.Choice.{is_among}
-use Rattle.plan_checks.specs.derived_figures.specs.RestatingBefore.{HasStatusAt}
+use Rattle.plan_checks.specs.derived_figures.specs.StatusesBefore.{HasStatusAt}
 use Rattle.plan_checks.specs.plan_status.proofs.LoadedRows.{row_found}
 use Rattle.small_requests.proofs.NamedFigures.{WasNamed, known_after, moved_on}
-use Rattle.small_requests.specs.Following.{AreStatusesOnceNamed}
+use Rattle.small_requests.specs.Effects.{AreStatusesOnceNamed}
 use Rattle.small_requests.specs.declared.columns.FigureColumns.{FigureColumns}
 use Rattle.ready_list.specs.Entries.{ReadyEntries}
 use Rattle.status_rules.specs.Table.{marked_status}

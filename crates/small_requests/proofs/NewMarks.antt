@@ -12,7 +12,7 @@ use Rattle.plan_drafts.proofs.MadeEntries.{each_made, entries-revise}
 use Rattle.plan_records.specs.Changes.{revised}
 use Rattle.plan_checks.specs.plan_status.proofs.LoadedRows.{row_found}
 use Rattle.plan_model.specs.Moves.{AreLiveAlike, IsMovedAt, IsMovedRow, reporting}
-use Rattle.small_requests.specs.KeptEdits.{StandsAt}
+use Rattle.small_requests.specs.RequestEdits.{StandsAt}
 use Rattle.workstations.specs.Timetables.{NamedWorkstation}
 use Rattle.workstations.specs.Workstations.{Workstation}
 use Rattle.plan_basics.specs.Keys.{Name}

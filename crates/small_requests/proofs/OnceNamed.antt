@@ -2,7 +2,7 @@
 use Rattle.std.proofs.Common.{inl, inr, ap, subst, ◌∙◌, ℕ, List, [], ◌∷◌, ◌++◌}
 use Rattle.std.proofs.lemmas.List.{map-append}
 use Rattle.std.proofs.lemmas.List.Elements.{Contains-push_cases}
-use Rattle.small_requests.specs.Following.{AreStatusesOnceNamed, IsStatusOnceNamed}
+use Rattle.small_requests.specs.Effects.{AreStatusesOnceNamed, IsStatusOnceNamed}
 use Rattle.status_rules.specs.declared.Status.{Status}
 
 -- one place more

@@ -27,7 +27,7 @@ use Rattle.plan_model.specs.Moves.{AreLiveAlike, IsMovedAt}
 use Rattle.small_requests.proofs.NewMarks.{IsNewState, moved_alike, reporting_stays, still_live, unmoved}
 use Rattle.small_requests.proofs.Rerunning.{reached_live, rerun_is_live}
 use Rattle.small_requests.proofs.Targets.{not_deleted, target_not_satisfied}
-use Rattle.small_requests.specs.KeptEdits.{ArePlacesWhere, IsEditedAt, IsSmall, StandsAt, target_of}
+use Rattle.small_requests.specs.RequestEdits.{ArePlacesWhere, IsEditedAt, IsSmall, StandsAt, target_of}
 use Rattle.small_requests.specs.KeptLaws.{KeepsOthers, NamingMoves, SmallRequestsKeepOthers, SmallRequestsMove}
 
 -- ---- one operation

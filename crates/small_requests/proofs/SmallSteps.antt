@@ -5,15 +5,15 @@ use Rattle.std.specs.List.Sorted.{IsStrictlySortedBy}
 use Rattle.std.specs.Ordering.{nat_cmp}
 use Rattle.plan_basics.specs.declared.keys.OpKey.{OpKey}
 use Rattle.small_requests.proofs.OneFrame.{frame_stays, moves_follow}
-use Rattle.small_requests.specs.KeptEdits.{ArePlacesOf}
+use Rattle.small_requests.specs.RequestEdits.{ArePlacesOf}
 use Rattle.plan_checks.specs.start_choice.specs.Choices.{AreLatestStarts}
 use Rattle.plan_model.specs.Contents.{Contents, Operation}
 use Rattle.plan_model.specs.Ready.{IsChosen, named}
 use Rattle.plan_model.specs.Moves.{AreLiveAlike, IsMovedAt, IsMovedRow, IsRemarkedAt}
 use Rattle.plan_checks.specs.derived_figures.specs.Figures.{KeepsFrame}
-use Rattle.plan_rows.specs.Touched.{StaysBeside}
-use Rattle.plan_rows.specs.declared.notes.ChangeBeside.{ChangeBeside}
-use Rattle.plan_rows.specs.declared.notes.ChangeBeside.TheVariants as kind
+use Rattle.plan_rows.specs.Touched.{IsFacilityChange}
+use Rattle.plan_rows.specs.declared.notes.FacilityChange.{FacilityChange}
+use Rattle.plan_rows.specs.declared.notes.FacilityChange.TheVariants as kind
 use Rattle.plan_rows.specs.declared.notes.Notes.{Notes}
 use Rattle.small_requests.proofs.Alike.{touched_shown}
 use Rattle.small_requests.proofs.KnownAlike.{row_stays}
@@ -23,7 +23,7 @@ use Rattle.small_requests.specs.Naming.{AreNotesOf, AreStepNotes}
 use Rattle.small_requests.specs.Touched.{AreKnownAlike, IsTouchedAt}
 
 -- what is named leaves workstations, special resources and pairs
-stays_named : (b : ChangeBeside) (P Q : Contents) (os : List OpKey) → StaysBeside b P Q → StaysBeside b P (named os Q)
+stays_named : (b : FacilityChange) (P Q : Contents) (os : List OpKey) → IsFacilityChange b P Q → IsFacilityChange b P (named os Q)
 stays_named kind.Nothing P Q os stays = stays
 stays_named kind.Resources P Q os stays = stays
 stays_named kind.Workstations P Q os stays = stays
@@ -79,15 +79,15 @@ module _ (P Q : Contents) (m : ℕ) (os : List OpKey) (chosen : IsChosen Q m os)
     }
 
 -- what is noted of the plan after notes the step, where its latest starts stay
-pub step_notes : (P Q : Contents) (os : List OpKey) (b : ChangeBeside) → StaysBeside b P Q → ((starts : List ℤ) → AreLatestStarts P starts → AreLatestStarts (named os Q) starts) → (touched : List ℕ) → IsTouchedAt P (named os Q) touched
+pub step_notes : (P Q : Contents) (os : List OpKey) (b : FacilityChange) → IsFacilityChange b P Q → ((starts : List ℤ) → AreLatestStarts P starts → AreLatestStarts (named os Q) starts) → (touched : List ℕ) → IsTouchedAt P (named os Q) touched
     → (notes : Notes) → AreNotesOf (named os Q) b touched notes → AreStepNotes P (named os Q) notes
 step_notes P Q os b stays latest touched at_touched notes noted before shown holds = record {
   after = noted.shown;
   shown = noted.is_shown;
   holds = noted.holds;
-  beside = b;
+  facilities = b;
   touched = touched;
-  stays = subst (λ (S : Contents). StaysBeside b S noted.shown.contents.now) (sym holds) (subst (StaysBeside b P) (sym noted.holds) (stays_named b P Q os stays));
+  stays = subst (λ (S : Contents). IsFacilityChange b S noted.shown.contents.now) (sym holds) (subst (IsFacilityChange b P) (sym noted.holds) (stays_named b P Q os stays));
   among = touched_shown P (named os Q) touched at_touched latest before noted.shown holds noted.holds shown noted.is_shown;
   noted = noted.noted;
 }

@@ -20,7 +20,7 @@ use Rattle.plan_drafts.specs.PlanGraphs.{IsGraphFor}
 use Rattle.plan_model.proofs.Entries.{entries_in_order}
 use Rattle.plan_model.specs.Contents.{Contents, Operation, Precedes}
 use Rattle.plan_model.specs.Ready.{named}
-use Rattle.small_requests.specs.KeptEdits.{IsRerun, IsSmall}
+use Rattle.small_requests.specs.RequestEdits.{IsRerun, IsSmall}
 use Rattle.plan_checks.specs.plan_status.proofs.LoadedRows.{row_of}
 use Rattle.plan_checks.specs.plan_status.proofs.RowKeys.{key_of_row, row_of_key}
 use Rattle.plan_checks.specs.start_choice.proofs.Readied.{ready_in_plan}
@@ -113,7 +113,7 @@ module _ {P Q : Contents} {w : What} {m : ℕ} {edits : List ℕ} {os : List OpK
   -- ---- what is touched
 
   abbrev zeros : List ℕ
-  zeros = freed_among looked.kept looked.kept_then looked.moved
+  zeros = freed_among looked.wait_states looked.kept_then looked.moved
 
   edited_in_turn : (o : OpKey) → Contains (of edits) o → Contains (first_of w edits) o ⊎ FollowsWork P w (named os Q) o
   edited_in_turn o has =
@@ -135,7 +135,7 @@ module _ {P Q : Contents} {w : What} {m : ℕ} {edits : List ℕ} {os : List OpK
   zeros_in_turn : (o : OpKey) → Contains (of zeros) o → IsFollower P w (named os Q) o ⊎ FollowsWork P w (named os Q) o
   zeros_in_turn o has =
       let from = key_from ks zeros o has in
-      let free = from_freed looked.kept looked.kept_then looked.moved from.0 from.1 in
+      let free = from_freed looked.wait_states looked.kept_then looked.moved from.0 from.1 in
       freed_in_turn step looked.are_kept looked.are_kept_then from.0 o from.2 free.1
 
   named_there : (i : ℕ) (o : OpKey) → Contains looked.places i → slice_get ks i ≡ Some o → is_among os o ≡ true
@@ -169,7 +169,7 @@ module _ {P Q : Contents} {w : What} {m : ℕ} {edits : List ℕ} {os : List OpK
     few_first = few_first w edits;
     edited_once = once_at ks sorted edits step.worked.ascend;
     followers_once = once_at ks sorted (followers_if is_rerun) (ascend_if is_rerun);
-    zeros_once = once_at ks sorted zeros (freed_ascend looked.kept looked.kept_then looked.moved looked.moved_ascend);
+    zeros_once = once_at ks sorted zeros (freed_ascend looked.wait_states looked.kept_then looked.moved looked.moved_ascend);
     named_once = once_at ks sorted looked.places looked.are_places.ascend;
     touched_once = once_at ks sorted looked.touched looked.joined.ascend;
     edited_is_work = λ o has. let from = key_from ks edits o has in edited_is_work step from.0 o from.1 from.2;
@@ -188,11 +188,11 @@ module _ {P Q : Contents} {w : What} {m : ℕ} {edits : List ℕ} {os : List OpK
       let row = row_of Q o found.0 found.1 in
       key_in ks looked.places row.0 o ((looked.are_places.each row.0 o found.0 row.1).1 among) (at_before row.0 o (key_of_row (entries Q.operations) row.0 o found.0 row.1))
 
-  few_waiting : waiting_count looked.kept ≤ waiting_count looked.kept_then + length zeros
-  few_waiting = few_freed looked.kept looked.kept_then looked.moved (looked.are_kept.size ∙ sym step.moved.size ∙ sym looked.are_kept_then.size) looked.elsewhere
+  few_waiting : waiting_count looked.wait_states ≤ waiting_count looked.kept_then + length zeros
+  few_waiting = few_freed looked.wait_states looked.kept_then looked.moved (looked.are_kept.size ∙ sym step.moved.size ∙ sym looked.are_kept_then.size) looked.elsewhere
 
   zeros_within : (i : ℕ) → Contains zeros i → i < length ks
-  zeros_within i has = moved_within i (from_freed looked.kept looked.kept_then looked.moved i has).0
+  zeros_within i has = moved_within i (from_freed looked.wait_states looked.kept_then looked.moved i has).0
 
   followers_within : (i : ℕ) → Contains (followers_if is_rerun) i → i < length ks
   followers_within i has = edits_within i (from_followers is_rerun i has).0

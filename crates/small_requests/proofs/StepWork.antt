@@ -8,8 +8,8 @@ use Rattle.plan_basics.specs.declared.keys.OpKey.{OpKey}
 use Rattle.operation_graph.proofs.Telling.{told_contains, told_equal}
 use Rattle.ready_list.specs.Choice.{is_among}
 use Rattle.status_rules.specs.declared.Mark.TheVariants.{Named, Unmarked}
-use Rattle.satisfaction.specs.Counters.{kept_at, nothing_kept, waiting_at}
-use Rattle.satisfaction.specs.declared.kept.Kept.{Kept}
+use Rattle.satisfaction.specs.Counters.{wait_state_at, no_wait_state, waiting_at}
+use Rattle.satisfaction.specs.declared.nodes.WaitState.{WaitState}
 use Rattle.plan_records.specs.Work.{HasChangedRow, IsWorkedOn}
 use Rattle.plan_records.specs.declared.What.{What}
 use Rattle.plan_records.specs.declared.What.TheVariants as what
@@ -24,9 +24,9 @@ use Rattle.plan_checks.specs.plan_status.proofs.Naming.{named_if, row_after, sam
 use Rattle.plan_checks.specs.plan_status.proofs.RowKeys.{key_of_row, row_of_key}
 use Rattle.small_requests.proofs.ChosenEntries.{chosen_are_ready}
 use Rattle.small_requests.proofs.OneFrame.{frame_stays, now}
-use Rattle.small_requests.specs.KeptEdits.{Edits, IsRerun}
+use Rattle.small_requests.specs.RequestEdits.{Edits, IsRerun}
 use Rattle.small_requests.specs.KeptLaws.{HaveOneFrame}
-use Rattle.plan_checks.specs.derived_figures.specs.Kept.{AreKept, IsKept}
+use Rattle.plan_checks.specs.derived_figures.specs.WaitStates.{AreWaitStates, IsKept}
 use Rattle.small_requests.proofs.Differing.{newly_satisfied, other_held, other_mark, other_nop}
 use Rattle.small_requests.proofs.Freed.{IsFreed}
 use Rattle.small_requests.proofs.NewlySatisfied.{waits_for_fewer}
@@ -47,11 +47,11 @@ reached_is_work P R w o rerun edits = absurd rerun
 -- ---- what is kept
 
 -- what is kept at an index is that of its key
-pub kept_there : (S : Contents) (kept : List Kept) → AreKept S kept → (i : ℕ) (o : OpKey) → slice_get (keys S.operations) i ≡ Some o → IsKept S o (kept_at kept i)
-kept_there S kept are i o at =
+pub kept_there : (S : Contents) (wait_states : List WaitState) → AreWaitStates S wait_states → (i : ℕ) (o : OpKey) → slice_get (keys S.operations) i ≡ Some o → IsKept S o (wait_state_at wait_states i)
+kept_there S wait_states are i o at =
     let row = row_of_key (entries S.operations) i o at in
     let lt = slice_get_within (entries S.operations) i (o, row.0) row.1 in
-    are.each i o row.0 (kept_at kept i) row.1 (slice_get-get_or kept i nothing_kept (omega (arith, lt, are.size)))
+    are.each i o row.0 (wait_state_at wait_states i) row.1 (slice_get-get_or wait_states i no_wait_state (omega (arith, lt, are.size)))
 
 -- ---- a small step
 
@@ -114,24 +114,24 @@ module _ {P Q : Contents} {w : What} {m : ℕ} {edits : List ℕ} {os : List OpK
   newly : (p : OpKey) → ¬ IsSatisfied P p → IsSatisfied Q p → HasChangedRow P (named os Q) p
   newly p never satisfied = newly_satisfied P (named os Q) valid_named p never (stays_satisfied Q os ready satisfied)
 
-  module _ {kept kept_then : List Kept} (are : AreKept P kept) (are_then : AreKept Q kept_then) (i : ℕ) (o : OpKey) (at : slice_get (keys P.operations) i ≡ Some o) where
-    is_kept : IsKept P o (kept_at kept i)
-    is_kept = kept_there P kept are i o at
+  module _ {wait_states kept_then : List WaitState} (are : AreWaitStates P wait_states) (are_then : AreWaitStates Q kept_then) (i : ℕ) (o : OpKey) (at : slice_get (keys P.operations) i ≡ Some o) where
+    is_kept : IsKept P o (wait_state_at wait_states i)
+    is_kept = kept_there P wait_states are i o at
 
-    is_kept_then : IsKept Q o (kept_at kept_then i)
+    is_kept_then : IsKept Q o (wait_state_at kept_then i)
     is_kept_then = kept_there Q kept_then are_then i o (subst (λ ks. slice_get ks i ≡ Some o) one_frame.keys at)
 
     -- what waits for fewer follows one whose status changed
-    pub fewer_follows : waiting_at kept_then i < waiting_at kept i → FollowsWork P w (named os Q) o
+    pub fewer_follows : waiting_at kept_then i < waiting_at wait_states i → FollowsWork P w (named os Q) o
     fewer_follows less =
-        let p = waits_for_fewer P Q step.sound_after.valid step.moved.pairs (λ q. (one_frame.live q).0) o (waiting_at kept i) (waiting_at kept_then i) is_kept.1 is_kept_then.1 less in
+        let p = waits_for_fewer P Q step.sound_after.valid step.moved.pairs (λ q. (one_frame.live q).0) o (waiting_at wait_states i) (waiting_at kept_then i) is_kept.1 is_kept_then.1 less in
         (p.0, changed_is_work P (named os Q) w p.0 (newly p.0 p.1.1 p.1.2), pair_after p.0 o p.1.0)
 
     -- what comes to wait for nothing does so too, or is satisfied and wasn't
-    pub freed_in_turn : IsFreed (kept_at kept i) (kept_at kept_then i) → IsFollower P w (named os Q) o ⊎ FollowsWork P w (named os Q) o
+    pub freed_in_turn : IsFreed (wait_state_at wait_states i) (wait_state_at kept_then i) → IsFollower P w (named os Q) o ⊎ FollowsWork P w (named os Q) o
     freed_in_turn free = elim free.now [
       | inl on ↦
-          let p = (some_counted (λ q. LivePredecessor P q o × ¬ IsSatisfied P q) (waiting_at kept i) is_kept.1).0 free.waited in
+          let p = (some_counted (λ q. LivePredecessor P q o × ¬ IsSatisfied P q) (waiting_at wait_states i) is_kept.1).0 free.waited in
           let never : ¬ IsSatisfied P o = λ s. true≢false (sym (is_kept.0.1 s) ∙ free.unsatisfied) in
           inl (changed_is_work P (named os Q) w o (newly o never (is_kept_then.0.0 on)), (p.0, pair_after p.0 o p.1.0.0))
       | inr none ↦ let waited = free.waited in inr (fewer_follows (omega (arith, none, waited)))

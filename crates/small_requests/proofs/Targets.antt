@@ -22,7 +22,7 @@ use Rattle.plan_records.specs.declared.What.TheVariants as what
 use Rattle.plan_checks.specs.plan_laws.proofs.Classes.{satisfied_decides}
 use Rattle.plan_checks.specs.plan_laws.proofs.Kept.{ready_not_satisfied}
 use Rattle.plan_checks.specs.plan_laws.proofs.Tables.{by_mark_of}
-use Rattle.small_requests.specs.KeptEdits.{Edits, IsRerun, target_of}
+use Rattle.small_requests.specs.RequestEdits.{Edits, IsRerun, target_of}
 use Rattle.small_requests.specs.KeptLaws.{EditedAreUnsatisfied}
 
 -- ---- it is in the plan

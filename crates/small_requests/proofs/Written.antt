@@ -12,15 +12,15 @@ use Rattle.plan_model.specs.Revise.{get-revise, revise}
 use Rattle.plan_model.specs.Valid.{IsSound}
 use Rattle.plan_model.specs.declared.Stock.{Stock}
 use Rattle.workstations.specs.Timetables.{NamedWorkstation}
-use Rattle.plan_rows.specs.Touched.{KeepsQuantities, StaysBeside}
-use Rattle.plan_rows.specs.declared.notes.ChangeBeside.TheVariants as kind
-use Rattle.small_requests.specs.Revisions.{PutsBack, beside, written}
+use Rattle.plan_rows.specs.Touched.{KeepsQuantities, IsFacilityChange}
+use Rattle.plan_rows.specs.declared.notes.FacilityChange.TheVariants as kind
+use Rattle.small_requests.specs.Revisions.{PutsBack, with_facilities, written}
 use Rattle.small_requests.specs.declared.revisions.Revision.{Revision}
 use Rattle.small_requests.specs.declared.revisions.Revision.TheVariants as revision
 
 -- what writes neither a special resource nor a workstation leaves them
 pub leaves_others : (x : Revision) → ((r : Name) (available : Bool) → x ≡ revision.Available r available → ⊥) → ((w : NamedWorkstation) → x ≡ revision.Opened w → ⊥)
-    → (keys : List OpKey) (P : Contents) → StaysBeside kind.Nothing P (written keys x P)
+    → (keys : List OpKey) (P : Contents) → IsFacilityChange kind.Nothing P (written keys x P)
 leaves_others (revision.Available r available) no_resource no_workstation keys P = absurd (no_resource r available refl)
 leaves_others (revision.Opened w) no_resource no_workstation keys P = absurd (no_workstation w refl)
 leaves_others revision.Nothing no_resource no_workstation keys P = (refl, refl, refl)
@@ -53,13 +53,13 @@ puts_nothing_back (revision.Held o held) no_resource no_workstation P = record {
 puts_nothing_back (revision.Nop o nop) no_resource no_workstation P = record { has_place = tt; back = refl }
 
 -- what stands beside operations once it is written is sound, as the plan is before and then
-pub beside_sound : (x : Revision) (keys : List OpKey) (P : Contents) → IsSound P → IsSound (written keys x P) → IsSound (beside x P)
-beside_sound revision.Nothing keys P before after = before
-beside_sound (revision.Mark mark) keys P before after = before
-beside_sound (revision.Held o held) keys P before after = before
-beside_sound (revision.Nop o nop) keys P before after = before
-beside_sound (revision.Available r available) keys P before after = after
-beside_sound (revision.Opened w) keys P before after = after
+pub with_facilities_sound : (x : Revision) (keys : List OpKey) (P : Contents) → IsSound P → IsSound (written keys x P) → IsSound (with_facilities x P)
+with_facilities_sound revision.Nothing keys P before after = before
+with_facilities_sound (revision.Mark mark) keys P before after = before
+with_facilities_sound (revision.Held o held) keys P before after = before
+with_facilities_sound (revision.Nop o nop) keys P before after = before
+with_facilities_sound (revision.Available r available) keys P before after = after
+with_facilities_sound (revision.Opened w) keys P before after = after
 
 -- ---- one value put in, and the one that stood there put back
 

@@ -4,9 +4,9 @@ use Rattle.std.specs.FinMap.{entries, keys}
 use Rattle.std.specs.List.Sorted.{IsStrictlySortedBy}
 use Rattle.std.specs.Ordering.{nat_cmp}
 use Rattle.operation_graph.specs.Graphs.{Digraph, HasEdge}
-use Rattle.satisfaction.specs.declared.kept.Kept.{Kept}
+use Rattle.satisfaction.specs.declared.nodes.WaitState.{WaitState}
 use Rattle.plan_checks.specs.plan_changes.specs.Markings.{DifferInMarks, WereMarked as WereMarkedBy}
-use Rattle.small_requests.specs.KeptEdits.{IsEditedAt, IsRerun}
+use Rattle.small_requests.specs.RequestEdits.{IsEditedAt, IsRerun}
 use Rattle.plan_checks.specs.start_choice.specs.Choices.{AreLatestStarts}
 use Rattle.plan_drafts.specs.PlanGraphs.{IsGraphFor, StandAt}
 use Rattle.plan_model.specs.Contents.{Contents}
@@ -15,9 +15,9 @@ use Rattle.plan_model.specs.Moves.{AreLiveAlike, IsMovedAt}
 use Rattle.plan_checks.specs.derived_figures.specs.Figures.{AreFigures}
 use Rattle.plan_checks.specs.derived_figures.specs.declared.figures.Figures.{Figures}
 use Rattle.plan_checks.specs.derived_figures.specs.WaitingChanges.{IsDeletedAt, IsSatisfiedAt}
-use Rattle.plan_checks.specs.derived_figures.specs.Kept.{AreKept}
+use Rattle.plan_checks.specs.derived_figures.specs.WaitStates.{AreWaitStates}
 use Rattle.plan_records.specs.declared.What.{What}
-use Rattle.small_requests.specs.Revisions.{HasPlaceFor, IsRevisionFor, PutsBack, beside, written}
+use Rattle.small_requests.specs.Revisions.{HasPlaceFor, IsRevisionFor, PutsBack, with_facilities, written}
 use Rattle.small_requests.specs.declared.edits.Edit.{Edit}
 use Rattle.small_requests.specs.declared.revisions.Revision.{Revision}
 use Rattle.plan_checks.specs.derived_figures.specs.TakingsBefore.{WereMarked}
@@ -50,7 +50,7 @@ pub record IsEditFor (P : Contents) (e : Edit) : Type 0 where
   pub sound_after : IsSound (edited e P)
   pub edit : IsEditOf P (edited e P) e
   pub has_place : HasPlaceFor P e.revision
-  pub remarks : DifferInMarks (beside e.revision P) (edited e P) e.keys.items
+  pub remarks : DifferInMarks (with_facilities e.revision P) (edited e P) e.keys.items
   pub marked : WereMarkedBy P e.keys.items e.marks.items
 
 -- the edit was written to P, which made Q of it, and old is what puts back what stood beside operations
@@ -60,10 +60,10 @@ pub record WasWritten (P Q : Contents) (e : Edit) (old : Revision) : Type 0 wher
   pub after : Q ≡ edited e P
 
 -- the edit made Q of P, which has this graph, and of which this is kept
-pub record IsKeptBefore (P Q : Contents) (e : Edit) (g : Digraph) (before : List Kept) : Type 0 where
+pub record IsKeptBefore (P Q : Contents) (e : Edit) (g : Digraph) (before : List WaitState) : Type 0 where
   pub edit : IsEditOf P Q e
   pub graph : IsGraphFor P g
-  pub kept : AreKept P before
+  pub wait_states : AreWaitStates P before
 
 -- the edit made Q of P, both sound; P has this graph, these latest starts and these figures
 pub record WasEdited (P Q : Contents) (e : Edit) (g : Digraph) (starts : List ℤ) (f : Figures) : Type 0 where

@@ -17,7 +17,7 @@ use Rattle.plan_records.specs.Acceptance.{MayBeDone}
 use Rattle.plan_records.specs.Changes.{Changes}
 use Rattle.plan_checks.specs.start_choice.specs.Choices.{AreLatestStarts}
 use Rattle.plan_model.specs.Moves.{AreLiveAlike, IsMovedAt}
-use Rattle.small_requests.specs.KeptEdits.{AreUnsatisfiedAt, ArePlacesOf, IsDeletedAt, IsEditedAt, IsRerun, IsSmall, KeepsOperations, KeepsResources, KeepsWorkstations}
+use Rattle.small_requests.specs.RequestEdits.{AreUnsatisfiedAt, ArePlacesOf, IsDeletedAt, IsEditedAt, IsRerun, IsSmall, KeepsOperations, KeepsResources, KeepsWorkstations}
 
 -- two plans have the same operations, of which the same are deleted, on workstations that report alike, the same graph of them, and the same latest starts
 pub record HaveOneFrame (P Q : Contents) : Type 0 where

@@ -6,7 +6,7 @@ pub use Rattle.plan_checks.specs.plan_laws
 pub use Rattle.plan_rows
 pub use Rattle.plan_checks.specs.plan_status
 pub use Rattle.plan_checks.specs.start_choice
-pub mod KeptEdits
+pub mod RequestEdits
 pub mod KeptLaws
 pub mod FewLooks
 pub mod StepLooks
@@ -19,8 +19,8 @@ pub mod Idle
 pub mod Touched
 pub mod Values
 pub mod Columns
-pub mod Shifts
+pub mod FigureChanges
 pub mod Groundworks
 pub mod Naming
-pub mod Following
+pub mod Effects
 pub mod Trials

@@ -4,7 +4,7 @@ use Rattle.std.specs.FinMap.{len}
 use Rattle.plan_basics.specs.Minutes.{IsMoment}
 use Rattle.plan_basics.specs.Refusals.{NoneRefuses}
 use Rattle.plan_basics.specs.declared.keys.OpKey.{OpKey}
-use Rattle.small_requests.specs.KeptEdits.{IsRerun, IsSmall}
+use Rattle.small_requests.specs.RequestEdits.{IsRerun, IsSmall}
 use Rattle.plan_model.specs.Contents.{Contents}
 use Rattle.plan_model.specs.Ready.{IsChosen, named}
 use Rattle.plan_model.specs.Valid.{IsSound}

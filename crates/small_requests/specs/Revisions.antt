@@ -29,17 +29,17 @@ HasPlaceFor P (revision.Opened w) = contains_key P.workstations w.0 ≡ true
 HasPlaceFor P x = Unit {0}
 
 -- what the plan holds once it is written, but for operations
-abbrev pub beside : Revision → Contents → Contents
-beside x P = record (written [] x P) { operations = P.operations }
+abbrev pub with_facilities : Revision → Contents → Contents
+with_facilities x P = record (written [] x P) { operations = P.operations }
 
 -- to write old after it puts back what stood beside operations
 pub record PutsBack (P : Contents) (x old : Revision) : Type 0 where
-  pub has_place : HasPlaceFor (beside x P) old
-  pub back : written [] old (beside x P) ≡ P
+  pub has_place : HasPlaceFor (with_facilities x P) old
+  pub back : written [] old (with_facilities x P) ≡ P
 
 -- written where this legal request edits, it makes what the request makes of the plan, and of operations markings alone
 pub record IsRevisionFor (P : Contents) (w : What) (x : Revision) : Type 0 where
   pub legal : IsRequest w
   pub has_place : HasPlaceFor P x
   pub changes : (keys : List OpKey) → AreEditedKeys P w keys → Changes P w (written keys x P)
-  pub remarks : (keys : List OpKey) → AreEditedKeys P w keys → DifferInMarks (beside x P) (written keys x P) keys
+  pub remarks : (keys : List OpKey) → AreEditedKeys P w keys → DifferInMarks (with_facilities x P) (written keys x P) keys

@@ -7,12 +7,12 @@ use Rattle.plan_model.specs.Contents.{Contents}
 use Rattle.plan_model.specs.Ready.{IsChosen, named}
 use Rattle.plan_rows.specs.Notes.{operations_noted}
 use Rattle.small_requests.specs.Edits.{IsEditFor, edited}
-use Rattle.small_requests.specs.KeptEdits.{IsRerun}
+use Rattle.small_requests.specs.RequestEdits.{IsRerun}
 use Rattle.small_requests.specs.Naming.{AreStepNotes}
-use Rattle.small_requests.specs.Shifts.{IsShift}
+use Rattle.small_requests.specs.FigureChanges.{IsFigureChange}
 use Rattle.small_requests.specs.StepLooks.{AreWorkedAt, IsStepLooked, one_at_least}
 use Rattle.small_requests.specs.declared.edits.Edit.{Edit}
-use Rattle.small_requests.specs.declared.following.SmallStep.{SmallStep}
+use Rattle.small_requests.specs.declared.named_steps.SmallStep.{SmallStep}
 
 -- what a plan that holds P holds once the edit is written and what the step names is marked so
 abbrev pub contents_then : Contents → Edit → SmallStep → Contents
@@ -29,7 +29,7 @@ pub record IsEditBy (P : Contents) (w : What) (e : Edit) : Type 0 where
 -- the step is what the edit leads to from P at minute m: what is named, what changes in the figures, and the notes of what the plan holds then
 pub record IsStepBy (P : Contents) (m : ℕ) (e : Edit) (s : SmallStep) : Type 0 where
   pub chosen : IsChosen (edited e P) m s.named.items
-  pub shift : IsShift P (contents_then P e s) s.shift
+  pub figure_change : IsFigureChange P (contents_then P e s) s.figure_change
   pub frame : KeepsFrame P (contents_then P e s)
   pub notes : AreStepNotes P (contents_then P e s) s.notes
 

@@ -2,12 +2,12 @@
 ghost use Rattle.std.specs.Prelude.{◌≡◌, IfErr, IfOk};
 ghost use Rattle.plan_basics.specs.declared.Refusal.{Refusal};
 ghost use Rattle.plan_model.specs.Contents.{Contents};
-ghost use Rattle.small_requests.specs.Columns.{AreSharesOf, figures_of};
+ghost use Rattle.small_requests.specs.Columns.{AreAllocationsOf, figures_of};
 
 use plan_basics::Refusal;
 use plan_checks::{Figures, Holdings, Standing};
 use ready_list::ReadyList;
-use satisfaction::Kept;
+use satisfaction::WaitState;
 use status_rules::{Counts, Status};
 use std::alloc::Global;
 use workstations::Capacity;
@@ -16,7 +16,7 @@ use workstations::Capacity;
 #[derive(Drop)]
 pub struct FigureColumns {
     /// Of each operation, whether it is satisfied, and how many predecessors it waits for.
-    pub kept: Vec<Kept>,
+    pub wait_states: Vec<WaitState>,
     /// Of each operation, what is known of its predecessors.
     pub standings: Vec<Standing>,
     /// The status of each operation.
@@ -27,20 +27,20 @@ pub struct FigureColumns {
 
 /// What is given out and held.
 #[derive(Drop)]
-pub struct Shares {
+pub struct Allocations {
     /// What each workstation has given out, in the order of their keys.
     pub given: Vec<Capacity>,
     /// Who holds what of special resources.
     pub holdings: Holdings,
 }
 
-impl Shares {
+impl Allocations {
     /// A copy. The error is always `Memory`.
-    pub fn try_clone(&self, alloc: Global) -> Result<Shares, Refusal>
-        ensures shares { (P : Contents) → AreSharesOf P self.now → IfOk result (AreSharesOf P) }
+    pub fn try_clone(&self, alloc: Global) -> Result<Allocations, Refusal>
+        ensures allocations { (P : Contents) → AreAllocationsOf P self.now → IfOk result (AreAllocationsOf P) }
         ensures refused { IfErr result (λ r. r ≡ Refusal.Memory) }
     {
-        Ok(Shares {
+        Ok(Allocations {
             given: Vec::from_slice(alloc, &self.given)?,
             holdings: self.holdings.try_clone()?,
         })
@@ -48,11 +48,11 @@ impl Shares {
 }
 
 /// The parts of these figures.
-pub fn parts_of(figures: Figures) -> (FigureColumns, ReadyList, Shares)
+pub fn parts_of(figures: Figures) -> (FigureColumns, ReadyList, Allocations)
     ensures { figures_of result.0 result.1 result.2 ≡ figures }
 {
     let Figures {
-        kept,
+        wait_states,
         standings,
         statuses,
         tallies,
@@ -61,26 +61,26 @@ pub fn parts_of(figures: Figures) -> (FigureColumns, ReadyList, Shares)
         ready,
     } = figures;
     let columns = FigureColumns {
-        kept,
+        wait_states,
         standings,
         statuses,
         tallies,
     };
-    let shares = Shares { given, holdings };
-    (columns, ready, shares)
+    let allocations = Allocations { given, holdings };
+    (columns, ready, allocations)
 }
 
 /// The figures of which these are the parts.
-pub fn figures_with(columns: FigureColumns, ready: ReadyList, shares: Shares) -> Figures
-    ensures { result ≡ figures_of columns ready shares }
+pub fn figures_with(columns: FigureColumns, ready: ReadyList, allocations: Allocations) -> Figures
+    ensures { result ≡ figures_of columns ready allocations }
 {
     Figures {
-        kept: columns.kept,
+        wait_states: columns.wait_states,
         standings: columns.standings,
         statuses: columns.statuses,
         tallies: columns.tallies,
-        given: shares.given,
-        holdings: shares.holdings,
+        given: allocations.given,
+        holdings: allocations.holdings,
         ready,
     }
 }

@@ -4,9 +4,9 @@ ghost use Rattle.std.specs.FinMap.{entries, keys as keys_in};
 ghost use Rattle.plan_basics.specs.Minutes.{IsMoment};
 ghost use Rattle.plan_basics.specs.Refusals.{NoneRefuses};
 ghost use Rattle.plan_basics.specs.declared.Refusal.{Refusal};
-ghost use Rattle.small_requests.specs.KeptEdits.{IsRerun, IsSmall};
+ghost use Rattle.small_requests.specs.RequestEdits.{IsRerun, IsSmall};
 ghost use Rattle.plan_drafts.specs.PlanGraphs.{StandAt};
-ghost use Rattle.plan_checks.specs.derived_figures.specs.Frames.{IsFrameOf};
+ghost use Rattle.plan_checks.specs.derived_figures.specs.DerivedRefs.{AreDerivedOf};
 ghost use Rattle.small_requests.specs.StepLooks.{AreWorkedAt, one_at_least};
 ghost use Rattle.plan_model.specs.declared.moves.Marking.{Marking as MarkingValue};
 ghost use Rattle.plan_records.specs.Acceptance.{MayBeDone};
@@ -14,14 +14,14 @@ ghost use Rattle.plan_records.specs.Changes.{Changes, IsRequest};
 ghost use Rattle.small_requests.specs.Edits.{IsEditFor, IsNotedEdit, edited};
 ghost use Rattle.small_requests.specs.Idle.{IsIdle, IsOfNothing};
 
-use super::kept_edits::edited_places;
-use super::requests::revision_of;
+use super::edited_places::edited_places;
+use super::request_revisions::revision_of;
 use super::revisions::Revision;
 use plan_basics::{OpKey, Refusal};
-use plan_checks::{Beside, Outline, Shown};
+use plan_checks::{CountedRecords, Outline, UncountedContents};
 use plan_model::Marking;
 use plan_records::What;
-use plan_rows::Frame;
+use plan_rows::DerivedRefs;
 use std::alloc::{AllocError, Global};
 
 /// What a request edits.
@@ -47,21 +47,25 @@ fn is_rerun(what: &What) -> bool
 }
 
 // The key of the operation at an index.
-fn key_at(beside: &Beside<'_>, place: usize) -> OpKey
-    requires { place < length (entries beside.now.contents.now.operations) }
-    ensures { slice_get (keys_in beside.now.contents.now.operations) place ≡ Some result }
+fn key_at(uncounted: &UncountedContents<'_>, place: usize) -> OpKey
+    requires { place < length (entries uncounted.now.contents.now.operations) }
+    ensures { slice_get (keys_in uncounted.now.contents.now.operations) place ≡ Some result }
 {
-    *beside.operation_key(place)
+    *uncounted.operation_key(place)
 }
 
 // The keys of the operations at these indices.
-fn keys_at(alloc: Global, beside: &Beside<'_>, places: &[usize]) -> Result<Vec<OpKey>, AllocError>
-    requires { All (λ place. place < length (entries beside.now.contents.now.operations)) places.now }
-    ensures { IfOk result (λ keys. StandAt (keys_in beside.now.contents.now.operations) places.now keys.items) }
+fn keys_at(
+    alloc: Global,
+    uncounted: &UncountedContents<'_>,
+    places: &[usize],
+) -> Result<Vec<OpKey>, AllocError>
+    requires { All (λ place. place < length (entries uncounted.now.contents.now.operations)) places.now }
+    ensures { IfOk result (λ keys. StandAt (keys_in uncounted.now.contents.now.operations) places.now keys.items) }
 {
     let mut keys = Vec::with_capacity(alloc, places.len())?;
     for place in places {
-        keys.push(key_at(beside, *place))?;
+        keys.push(key_at(uncounted, *place))?;
     }
     Ok(keys)
 }
@@ -108,11 +112,11 @@ fn nothing_edited(alloc: Global) -> Edit
 // What is noted of what a small request edits in whose way nothing stands: a look at each operation.
 fn noted_edit(
     alloc: Global,
-    shown: &mut Shown,
-    frame: Frame<'_>,
+    shown: &mut CountedRecords,
+    derived: DerivedRefs<'_>,
     what: &What,
 ) -> Result<Edit, Refusal>
-    requires frame { IsFrameOf shown.old.contents frame }
+    requires derived { AreDerivedOf shown.old.contents derived }
     requires small { IsSmall what.now }
     requires clear { (at : ℕ) × NoneRefuses (MayBeDone shown.old.contents at what.now) }
     ensures noted { IfOk result (IsNotedEdit shown.old.contents what.now) }
@@ -121,10 +125,10 @@ fn noted_edit(
     ensures fewest { shown.old.looks ≤ shown.new.looks }
     ensures most { IfOk result (λ edit. shown.new.looks ≤ shown.old.looks + length edit.places.items) }
 {
-    let outline = Outline::of(shown.beside(), frame);
+    let outline = Outline::of(shown.uncounted(), derived);
     let places = edited_places(alloc, &outline, what)?;
-    let revision = revision_of(alloc, &outline.beside(), what)?;
-    let keys = keys_at(alloc, &outline.beside(), &places)?;
+    let revision = revision_of(alloc, &outline.uncounted(), what)?;
+    let keys = keys_at(alloc, &outline.uncounted(), &places)?;
     let marks = shown.markings_of(alloc, &keys)?;
     Ok(Edit {
         places,
@@ -139,11 +143,11 @@ fn noted_edit(
 /// takes a look at each operation that it edits, and one where it edits nothing. The error is always `Memory`.
 pub fn edit_of(
     alloc: Global,
-    shown: &mut Shown,
-    frame: Frame<'_>,
+    shown: &mut CountedRecords,
+    derived: DerivedRefs<'_>,
     what: &What,
 ) -> Result<Edit, Refusal>
-    requires frame { IsFrameOf shown.old.contents frame }
+    requires derived { AreDerivedOf shown.old.contents derived }
     requires small { IsSmall what.now }
     requires clear { (at : ℕ) × IsMoment at × NoneRefuses (MayBeDone shown.old.contents at what.now) }
     ensures edit { IfOk result (IsEditFor shown.old.contents) }
@@ -156,8 +160,8 @@ pub fn edit_of(
     ensures fewest { shown.old.looks ≤ shown.new.looks }
     ensures most { IfOk result (λ edit. shown.new.looks ≤ shown.old.looks + one_at_least (length edit.places.items)) }
 {
-    shown.beside().are_sound();
-    let edit = noted_edit(alloc, shown, frame, what)?;
+    shown.uncounted().are_sound();
+    let edit = noted_edit(alloc, shown, derived, what)?;
     if is_idle_at_one(what, &edit.marks) {
         Ok(nothing_edited(alloc))
     } else {

@@ -2,25 +2,25 @@
 ghost use Rattle.std.specs.Prelude.{◌≡◌, ◌≤◌, ℤ, List, [], IfErr, IfOk, OnOk, length, vec_capacity};
 ghost use Rattle.plan_basics.specs.declared.Refusal.{Refusal};
 ghost use Rattle.plan_basics.specs.declared.keys.OpKey.{OpKey as OpKeyValue};
-ghost use Rattle.plan_rows.specs.Touched.{StaysBeside};
+ghost use Rattle.plan_rows.specs.Touched.{IsFacilityChange};
 ghost use Rattle.small_requests.specs.Revisions.{written};
 ghost use Rattle.plan_model.specs.Contents.{Contents};
 ghost use Rattle.plan_checks.specs.derived_figures.specs.Overwritten.{overwritten};
-ghost use Rattle.small_requests.specs.Columns.{AreAlike, AreSharesOf, figures_of};
+ghost use Rattle.small_requests.specs.Columns.{AreAlike, AreAllocationsOf, figures_of};
 ghost use Rattle.small_requests.specs.Edits.{WasEdited};
 ghost use Rattle.small_requests.specs.Groundworks.{IsCounted, IsGroundwork};
 ghost use Rattle.ready_list.specs.Entries.{ReadyEntries};
 
-use super::columns::{FigureColumns, Shares};
-use super::counting::{KeptThen, recount};
+use super::columns::{Allocations, FigureColumns};
 use super::edits::Edit;
-use super::excerpts::{Excerpt, excerpt_of};
+use super::snapshots::{Snapshot, snapshot_of};
+use super::wait_changes::{WaitChange, recount};
 use operation_graph::Graph;
 use plan_basics::Refusal;
-use plan_checks::{Shown, retake};
-use plan_rows::ChangeBeside;
+use plan_checks::{CountedRecords, retake};
+use plan_rows::FacilityChange;
 use ready_list::ReadyEntry;
-use satisfaction::Kept;
+use satisfaction::WaitState;
 use std::alloc::Global;
 
 /// What is worked out of an edit before columns are written.
@@ -29,11 +29,11 @@ pub struct Groundwork {
     /// The indices, ascending, of the operations that it touches.
     pub touched: Vec<usize>,
     /// What is to be kept of them.
-    pub kept: Vec<(usize, Kept)>,
+    pub wait_states: Vec<(usize, WaitState)>,
     /// What the columns have there before.
-    pub old: Excerpt,
+    pub old: Snapshot,
     /// What it may change beside operations.
-    pub beside: ChangeBeside,
+    pub facilities: FacilityChange,
 }
 
 /// What is worked out of an edit before columns are written, with room for an entry of each operation that it touches: the columns
@@ -42,38 +42,41 @@ pub struct Groundwork {
 pub fn groundwork_of(
     alloc: Global,
     graph: &Graph,
-    shown: &mut Shown,
+    shown: &mut CountedRecords,
     edit: &Edit,
     columns: &mut FigureColumns,
-    shares: &mut Shares,
+    allocations: &mut Allocations,
 ) -> Result<(Groundwork, Vec<ReadyEntry>), Refusal>
-    requires { (P : Contents) × (starts : List ℤ) × (ready : ReadyEntries) × WasEdited P shown.old.contents edit.now graph.now starts (figures_of columns.old ready shares.old) }
+    requires { (P : Contents) × (starts : List ℤ) × (ready : ReadyEntries) × WasEdited P shown.old.contents edit.now graph.now starts (figures_of columns.old ready allocations.old) }
     ensures unchanged { AreAlike columns.new columns.old }
     ensures groundwork { IfOk result (λ g. IsGroundwork shown.old.contents edit.now.places.items columns.new g.0) }
-    ensures beside { IfOk result (λ g. (keys : List OpKeyValue) (P : Contents) → StaysBeside g.0.beside P (written keys edit.now.revision P)) }
+    ensures facilities { IfOk result (λ g. (keys : List OpKeyValue) (P : Contents) → IsFacilityChange g.0.facilities P (written keys edit.now.revision P)) }
     ensures none_noted { IfOk result (λ g. g.1.items ≡ []) }
     ensures space { IfOk result (λ g. length g.0.touched.items ≤ vec_capacity g.1) }
-    ensures shares { OnOk result (AreSharesOf shown.old.contents shares.new) }
+    ensures allocations { OnOk result (AreAllocationsOf shown.old.contents allocations.new) }
     ensures contents { shown.new.contents ≡ shown.old.contents }
     ensures fewest { shown.old.looks ≤ shown.new.looks }
-    ensures counted { IfOk result (λ g. IsCounted shown.old.contents edit.now 2 columns.new.kept.items (overwritten g.0.kept.items columns.new.kept.items) g.0.touched.items shown.old.looks shown.new.looks) }
+    ensures counted { IfOk result (λ g. IsCounted shown.old.contents edit.now 2 columns.new.wait_states.items (overwritten g.0.wait_states.items columns.new.wait_states.items) g.0.touched.items shown.old.looks shown.new.looks) }
     ensures refused { IfErr result (λ r. r ≡ Refusal.Memory) }
 {
-    let KeptThen { touched, kept } = recount(alloc, graph, shown, edit, &mut columns.kept)?;
+    let WaitChange {
+        touched,
+        wait_states,
+    } = recount(alloc, graph, shown, edit, &mut columns.wait_states)?;
     retake(
         shown,
-        &mut shares.given,
-        &mut shares.holdings,
+        &mut allocations.given,
+        &mut allocations.holdings,
         &edit.places,
         &edit.marks,
     )?;
-    let old = excerpt_of(alloc, &shown.beside(), columns, &touched)?;
+    let old = snapshot_of(alloc, &shown.uncounted(), columns, &touched)?;
     let entries = Vec::with_capacity(alloc, touched.len())?;
     let groundwork = Groundwork {
         touched,
-        kept,
+        wait_states,
         old,
-        beside: edit.revision.beside(),
+        facilities: edit.revision.facility_change(),
     };
     Ok((groundwork, entries))
 }

@@ -4,49 +4,50 @@
 //! put back too. And laws: what stays where no more than that changes, and that what is looked at is within what is allowed.
 #![tactic(auto)]
 
+mod column_moves;
 mod columns;
-mod counting;
+mod edited_places;
 mod edits;
-mod excerpts;
-mod followed;
-mod following;
+mod figure_changes;
 mod groundwork;
-mod kept_edits;
-mod kept_places;
 mod laws;
-mod moving;
-mod naming;
-mod noting;
+mod moved_steps;
+mod named_steps;
+mod naming_afresh;
+mod naming_effects;
+mod namings;
+mod operation_places;
 mod places;
-mod requests;
+mod request_revisions;
 mod revisions;
-mod setting;
-mod settling;
-mod shifting;
+mod snapshots;
 mod statuses;
+mod step_context;
+mod step_notes;
 mod steps;
 mod trials;
-mod trying;
 mod values;
+mod wait_changes;
 mod writing;
 
+pub use edited_places::is_small;
 pub use edits::Edit;
-pub use following::SmallStep;
-pub use kept_edits::is_small;
+pub use figure_changes::{FigureChange, changed_figures};
 pub use laws::{
     edits_lead_on, frame_stays, naming_moves, small_requests_move, small_steps_look_few,
     whole_plans_look_few,
 };
+pub use named_steps::SmallStep;
+pub use naming_afresh::{NamedAfresh, name_afresh};
 pub use plan_checks::{
-    Beside, Figures, Outline, RecordCopy, Shown, check_load, check_request, check_shown, is_one_of,
+    CountedRecords, Figures, Outline, RecordCopy, UncountedContents, check_load, check_request,
+    check_shown, is_one_of,
 };
 pub use plan_rows::{
-    Frame, LoadedPlan, PlanBefore, SourceColumns, TableSource, WorkedOut, changed_rows,
-    changes_between, columns_of, noted_changes, rows_of, worked_out,
+    DerivedAfresh, DerivedRefs, LoadedPlan, PlanBefore, SourceColumns, TableSource, changed_rows,
+    changes_between, columns_of, derived_afresh, noted_changes, rows_of,
 };
 pub use revisions::Revision;
-pub use setting::Setting;
-pub use settling::{Settled, settle};
-pub use shifting::{Shift, shifted};
+pub use step_context::StepContext;
 pub use trials::small_trial;
 pub use writing::stepped;

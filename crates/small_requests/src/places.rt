@@ -3,11 +3,11 @@ ghost use Rattle.std.specs.Prelude.{◌≡◌, ◌↔◌, ◌⊎◌, ℕ, map, C
 ghost use Rattle.std.specs.List.Sorted.{IsStrictlySortedBy};
 ghost use Rattle.std.specs.Ordering.{nat_cmp};
 
-use satisfaction::Kept;
+use satisfaction::WaitState;
 use std::alloc::{AllocError, Global};
 
 /// The places at which a journal has writes, in its order.
-pub fn noted(alloc: Global, journal: &[(usize, Kept)]) -> Result<Vec<usize>, AllocError>
+pub fn noted(alloc: Global, journal: &[(usize, WaitState)]) -> Result<Vec<usize>, AllocError>
     ensures { IfOk result (λ places. places.items ≡ map (λ e. e.0) journal.now) }
 {
     let mut places = Vec::with_capacity(alloc, journal.len())?;

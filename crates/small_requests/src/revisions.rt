@@ -1,14 +1,14 @@
 // What an edit writes into what a plan holds.
 ghost use Rattle.std.specs.Prelude.{◌≡◌, true, IfOk, List, Some};
 ghost use Rattle.std.specs.FinMap.{contains_key, get};
-ghost use Rattle.plan_rows.specs.Touched.{StaysBeside};
+ghost use Rattle.plan_rows.specs.Touched.{IsFacilityChange};
 ghost use Rattle.plan_model.specs.Contents.{Contents};
 ghost use Rattle.plan_basics.specs.declared.keys.OpKey.{OpKey as OpKeyValue};
 ghost use Rattle.small_requests.specs.Revisions.{HasPlaceFor, PutsBack, written};
 
 use plan_basics::{OpKey, ResName, WsName};
-use plan_checks::Shown;
-use plan_rows::ChangeBeside;
+use plan_checks::CountedRecords;
+use plan_rows::FacilityChange;
 use status_rules::Mark;
 use std::alloc::AllocError;
 use workstations::Workstation;
@@ -46,34 +46,34 @@ impl Revision {
     }
 
     /// What it may change beside operations.
-    pub fn beside(&self) -> ChangeBeside
-        ensures { (keys : List OpKeyValue) (P : Contents) → StaysBeside result P (written keys self.now P) }
+    pub fn facility_change(&self) -> FacilityChange
+        ensures { (keys : List OpKeyValue) (P : Contents) → IsFacilityChange result P (written keys self.now P) }
     {
         match self {
-            Revision::Available(_, _) => ChangeBeside::Resources,
-            Revision::Opened(_) => ChangeBeside::Workstations,
-            _ => ChangeBeside::Nothing,
+            Revision::Available(_, _) => FacilityChange::Resources,
+            Revision::Opened(_) => FacilityChange::Workstations,
+            _ => FacilityChange::Nothing,
         }
     }
 }
 
 // A copy of the workstation of this name, which is there.
-fn standing_workstation(shown: &Shown, name: &WsName) -> Result<Workstation, AllocError>
+fn standing_workstation(shown: &CountedRecords, name: &WsName) -> Result<Workstation, AllocError>
     requires { contains_key shown.now.contents.workstations name.now ≡ true }
     ensures { IfOk result (λ w. (w.0 ≡ name.now) × (get shown.now.contents.workstations name.now ≡ Some w.1)) }
 {
-    shown.beside().workstation(name).unwrap().try_clone()
+    shown.uncounted().workstation(name).unwrap().try_clone()
 }
 
 /// What stands beside operations where it is going to be written: that, written after it, puts back what stood there.
-pub fn standing(shown: &Shown, revision: &Revision) -> Result<Revision, AllocError>
+pub fn standing(shown: &CountedRecords, revision: &Revision) -> Result<Revision, AllocError>
     requires { HasPlaceFor shown.now.contents revision.now }
     ensures { IfOk result (PutsBack shown.now.contents revision.now) }
 {
     match revision {
         Revision::Available(name, _) => Ok(Revision::Available(
             *name,
-            shown.beside().resource(name).unwrap().available,
+            shown.uncounted().resource(name).unwrap().available,
         )),
         Revision::Opened(workstation) => Ok(Revision::Opened(standing_workstation(
             shown,

@@ -2,7 +2,7 @@
 ghost use Rattle.std.specs.Prelude.{◌≡◌, ◌<◌, All, Contains, IfOk, MatchOption, Some, length, slice_get};
 ghost use Rattle.std.specs.List.Sorted.{IsStrictlySortedBy};
 ghost use Rattle.std.specs.Ordering.{nat_cmp};
-ghost use Rattle.small_requests.specs.Following.{AreStatusesOnceNamed, IsStatusOnceNamed};
+ghost use Rattle.small_requests.specs.Effects.{AreStatusesOnceNamed, IsStatusOnceNamed};
 
 use status_rules::Status;
 use std::alloc::{AllocError, Global};

@@ -8,21 +8,21 @@ ghost use Rattle.plan_model.specs.Ready.{IsChosen, named as named_in};
 ghost use Rattle.plan_checks.specs.derived_figures.specs.Figures.{AreFigures, KeepsFrame};
 ghost use Rattle.small_requests.specs.StepLooks.{IsStepLooked};
 ghost use Rattle.plan_rows.specs.Notes.{operations_noted};
-ghost use Rattle.small_requests.specs.Columns.{AreAlike, AreSharesOf, IsReadyListOf, figures_of};
+ghost use Rattle.small_requests.specs.Columns.{AreAlike, AreAllocationsOf, IsReadyListOf, figures_of};
 ghost use Rattle.small_requests.specs.Edits.{IsEditFor, WasEdited, edited};
 ghost use Rattle.small_requests.specs.Naming.{AreStepNotes};
 ghost use Rattle.small_requests.specs.Revisions.{PutsBack};
-ghost use Rattle.small_requests.specs.Shifts.{IsShift};
+ghost use Rattle.small_requests.specs.FigureChanges.{IsFigureChange};
 
-use super::columns::{FigureColumns, Shares, figures_with, parts_of};
+use super::columns::{Allocations, FigureColumns, figures_with, parts_of};
 use super::edits::Edit;
-use super::following::SmallStep;
+use super::moved_steps::step_after;
+use super::named_steps::SmallStep;
 use super::revisions::{Revision, standing};
-use super::setting::Setting;
-use super::trying::step_after;
+use super::step_context::StepContext;
 use super::writing::{with_revision, without_edit};
 use plan_basics::Refusal;
-use plan_checks::{Figures, Shown};
+use plan_checks::{CountedRecords, Figures};
 use ready_list::ReadyList;
 use std::alloc::Global;
 
@@ -31,61 +31,66 @@ use std::alloc::Global;
 struct Undo {
     forth: Revision,
     back: Revision,
-    shares: Shares,
+    allocations: Allocations,
 }
 
 // All that it takes to write an edit and to take it back. The error is always `Memory`.
-fn undo_of(alloc: Global, shown: &Shown, shares: &Shares, edit: &Edit) -> Result<Undo, Refusal>
+fn undo_of(
+    alloc: Global,
+    shown: &CountedRecords,
+    allocations: &Allocations,
+    edit: &Edit,
+) -> Result<Undo, Refusal>
     requires edit { IsEditFor shown.now.contents edit.now }
-    requires shares { AreSharesOf shown.now.contents shares.now }
+    requires allocations { AreAllocationsOf shown.now.contents allocations.now }
     ensures forth { IfOk result (λ t. t.forth ≡ edit.now.revision) }
     ensures back { IfOk result (λ t. PutsBack shown.now.contents edit.now.revision t.back) }
-    ensures shares { IfOk result (λ t. AreSharesOf shown.now.contents t.shares) }
+    ensures allocations { IfOk result (λ t. AreAllocationsOf shown.now.contents t.allocations) }
     ensures refused { IfErr result (λ r. r ≡ Refusal.Memory) }
 {
     let forth = edit.revision.try_clone()?;
     let back = standing(shown, &edit.revision)?;
-    let shares = shares.try_clone(alloc)?;
+    let allocations = allocations.try_clone(alloc)?;
     Ok(Undo {
         forth,
         back,
-        shares,
+        allocations,
     })
 }
 
 // What an edit leads to, with these columns, which stay. It gives the same back, and the ready list is that of the plan still. The
 // error is always `Memory`.
 fn tried_step(
-    setting: &Setting<'_>,
-    shown: Shown,
+    context: &StepContext<'_>,
+    shown: CountedRecords,
     columns: &mut FigureColumns,
     ready: &mut ReadyList,
-    shares: &Shares,
+    allocations: &Allocations,
     edit: &Edit,
-) -> (Shown, Result<SmallStep, Refusal>)
-    requires graph { IsGraphFor shown.contents setting.now.graph.now }
-    requires latest { AreLatestStarts shown.contents setting.now.latest.now.starts }
-    requires figures { AreFigures shown.contents (figures_of columns.old ready.old shares.now) }
+) -> (CountedRecords, Result<SmallStep, Refusal>)
+    requires graph { IsGraphFor shown.contents context.now.graph.now }
+    requires latest { AreLatestStarts shown.contents context.now.latest.now.starts }
+    requires figures { AreFigures shown.contents (figures_of columns.old ready.old allocations.now) }
     requires edit { IsEditFor shown.contents edit.now }
     ensures contents { result.0.contents ≡ shown.contents }
     ensures unchanged { AreAlike columns.new columns.old }
     ensures ready { IsReadyListOf shown.contents ready.new }
-    ensures chosen { IfOk result.1 (λ s. IsChosen (edited edit.now shown.contents) setting.now.at s.named.items) }
-    ensures shift { IfOk result.1 (λ s. IsShift shown.contents (named_in s.named.items (edited edit.now shown.contents)) s.shift) }
+    ensures chosen { IfOk result.1 (λ s. IsChosen (edited edit.now shown.contents) context.now.at s.named.items) }
+    ensures figure_change { IfOk result.1 (λ s. IsFigureChange shown.contents (named_in s.named.items (edited edit.now shown.contents)) s.figure_change) }
     ensures frame { IfOk result.1 (λ s. KeepsFrame shown.contents (named_in s.named.items (edited edit.now shown.contents))) }
     ensures notes { IfOk result.1 (λ s. AreStepNotes shown.contents (named_in s.named.items (edited edit.now shown.contents)) s.notes) }
     ensures looked { IfOk result.1 (λ s. IsStepLooked shown.contents (edited edit.now shown.contents) edit.now.is_rerun edit.now.places.items s.named.items (operations_noted s.notes) shown.looks result.0.looks) }
     ensures refused { IfErr result.1 (λ r. r ≡ Refusal.Memory) }
 {
-    match undo_of(setting.alloc, &shown, shares, edit) {
+    match undo_of(context.alloc, &shown, allocations, edit) {
         Ok(undo) => {
             let Undo {
                 forth,
                 back,
-                shares,
+                allocations,
             } = undo;
             let after = with_revision(shown, &edit.keys, forth);
-            let (same, step) = step_after(setting, after, columns, ready, shares, edit);
+            let (same, step) = step_after(context, after, columns, ready, allocations, edit);
             (without_edit(same, edit, back), step)
         }
         Err(refusal) => (shown, Err(refusal)),
@@ -95,25 +100,25 @@ fn tried_step(
 /// What an edit of a plan leads to, which is made of what is shown, with these figures: at the moment the operations that are chosen are
 /// named. It gives the same contents back, and figures of them, whether or not there was memory. The error is always `Memory`.
 pub fn small_step(
-    setting: &Setting<'_>,
-    shown: Shown,
+    context: &StepContext<'_>,
+    shown: CountedRecords,
     figures: Figures,
     edit: &Edit,
-) -> (Shown, Figures, Result<SmallStep, Refusal>)
-    requires graph { IsGraphFor shown.contents setting.now.graph.now }
-    requires latest { AreLatestStarts shown.contents setting.now.latest.now.starts }
+) -> (CountedRecords, Figures, Result<SmallStep, Refusal>)
+    requires graph { IsGraphFor shown.contents context.now.graph.now }
+    requires latest { AreLatestStarts shown.contents context.now.latest.now.starts }
     requires figures { AreFigures shown.contents figures }
     requires edit { IsEditFor shown.contents edit.now }
     ensures contents { result.0.contents ≡ shown.contents }
     ensures figures { AreFigures shown.contents result.1 }
-    ensures chosen { IfOk result.2 (λ s. IsChosen (edited edit.now shown.contents) setting.now.at s.named.items) }
-    ensures shift { IfOk result.2 (λ s. IsShift shown.contents (named_in s.named.items (edited edit.now shown.contents)) s.shift) }
+    ensures chosen { IfOk result.2 (λ s. IsChosen (edited edit.now shown.contents) context.now.at s.named.items) }
+    ensures figure_change { IfOk result.2 (λ s. IsFigureChange shown.contents (named_in s.named.items (edited edit.now shown.contents)) s.figure_change) }
     ensures frame { IfOk result.2 (λ s. KeepsFrame shown.contents (named_in s.named.items (edited edit.now shown.contents))) }
     ensures notes { IfOk result.2 (λ s. AreStepNotes shown.contents (named_in s.named.items (edited edit.now shown.contents)) s.notes) }
     ensures looked { IfOk result.2 (λ s. IsStepLooked shown.contents (edited edit.now shown.contents) edit.now.is_rerun edit.now.places.items s.named.items (operations_noted s.notes) shown.looks result.0.looks) }
     ensures refused { IfErr result.2 (λ r. r ≡ Refusal.Memory) }
 {
-    let (mut columns, mut ready, shares) = parts_of(figures);
-    let (same, step) = tried_step(setting, shown, &mut columns, &mut ready, &shares, edit);
-    (same, figures_with(columns, ready, shares), step)
+    let (mut columns, mut ready, allocations) = parts_of(figures);
+    let (same, step) = tried_step(context, shown, &mut columns, &mut ready, &allocations, edit);
+    (same, figures_with(columns, ready, allocations), step)
 }

@@ -7,45 +7,45 @@ ghost use Rattle.plan_checks.specs.derived_figures.specs.Figures.{AreFigures};
 ghost use Rattle.plan_checks.specs.start_choice.specs.Choices.{AreLatestStarts};
 ghost use Rattle.plan_records.specs.Acceptance.{MayBeDone};
 ghost use Rattle.plan_drafts.specs.PlanGraphs.{IsGraphFor};
-ghost use Rattle.small_requests.specs.KeptEdits.{IsSmall};
+ghost use Rattle.small_requests.specs.RequestEdits.{IsSmall};
 ghost use Rattle.small_requests.specs.Trials.{IsTrialOf};
 
 use super::edits::{Edit, edit_of};
-use super::following::SmallStep;
-use super::setting::Setting;
+use super::named_steps::SmallStep;
+use super::step_context::StepContext;
 use super::steps::small_step;
 use plan_basics::Refusal;
-use plan_checks::{Figures, Shown};
+use plan_checks::{CountedRecords, Figures};
 use plan_records::What;
-use plan_rows::Frame;
+use plan_rows::DerivedRefs;
 
 /// What a small request in whose way nothing stands writes into a plan, of which this is shown, with these figures; and what that leads
 /// to, tried there. It gives the same contents back, and figures of them, whether or not there was memory. The error is always `Memory`.
 pub fn small_trial(
-    setting: &Setting<'_>,
-    shown: Shown,
+    context: &StepContext<'_>,
+    shown: CountedRecords,
     figures: Figures,
     what: &What,
-) -> (Shown, Figures, Result<(Edit, SmallStep), Refusal>)
-    requires graph { IsGraphFor shown.contents setting.now.graph.now }
-    requires latest { AreLatestStarts shown.contents setting.now.latest.now.starts }
+) -> (CountedRecords, Figures, Result<(Edit, SmallStep), Refusal>)
+    requires graph { IsGraphFor shown.contents context.now.graph.now }
+    requires latest { AreLatestStarts shown.contents context.now.latest.now.starts }
     requires figures { AreFigures shown.contents figures }
     requires small { IsSmall what.now }
     requires clear { (at : ℕ) × IsMoment at × NoneRefuses (MayBeDone shown.contents at what.now) }
     ensures contents { result.0.contents ≡ shown.contents }
     ensures figures { AreFigures shown.contents result.1 }
-    ensures trial { IfOk result.2 (λ t. IsTrialOf shown.contents what.now setting.now.at shown.looks result.0.looks t.0 t.1) }
+    ensures trial { IfOk result.2 (λ t. IsTrialOf shown.contents what.now context.now.at shown.looks result.0.looks t.0 t.1) }
     ensures refused { IfErr result.2 (λ r. r ≡ Refusal.Memory) }
 {
     let mut shown = shown;
-    let frame = Frame {
-        graph: setting.graph,
-        latest: setting.latest,
+    let derived = DerivedRefs {
+        graph: context.graph,
+        latest: context.latest,
         figures: &figures,
     };
-    match edit_of(setting.alloc, &mut shown, frame, what) {
+    match edit_of(context.alloc, &mut shown, derived, what) {
         Ok(edit) => {
-            let (shown, figures, step) = small_step(setting, shown, figures, &edit);
+            let (shown, figures, step) = small_step(context, shown, figures, &edit);
             match step {
                 Ok(step) => (shown, figures, Ok((edit, step))),
                 Err(refusal) => (shown, figures, Err(refusal)),

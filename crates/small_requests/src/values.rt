@@ -5,7 +5,7 @@ ghost use Rattle.plan_rows.specs.Touched.{BelongsAt, HasOneOf};
 ghost use Rattle.plan_checks.specs.derived_figures.specs.Overwritten.{overwritten};
 ghost use Rattle.small_requests.specs.Values.{AreValuesAt};
 
-use plan_checks::Beside;
+use plan_checks::UncountedContents;
 use std::alloc::{AllocError, Global};
 
 /// What stands at these places, in their order.
@@ -36,27 +36,27 @@ pub fn put_at<T: Copy>(list: &mut [T], values: &[(usize, T)])
 }
 
 // The index of the occurrence to which the operation at an index belongs.
-fn occurrence_at(beside: &Beside<'_>, place: usize) -> usize
-    requires { place < length (entries beside.now.contents.now.operations) }
-    ensures within { result < length (entries beside.now.contents.now.occurrences) }
-    ensures belongs { BelongsAt beside.now.contents.now place result }
+fn occurrence_at(uncounted: &UncountedContents<'_>, place: usize) -> usize
+    requires { place < length (entries uncounted.now.contents.now.operations) }
+    ensures within { result < length (entries uncounted.now.contents.now.occurrences) }
+    ensures belongs { BelongsAt uncounted.now.contents.now place result }
 {
-    beside.occurrence_place_of(beside.operation_key(place), place)
+    uncounted.occurrence_place_of(uncounted.operation_key(place), place)
 }
 
 /// The indices of the occurrences to which the operations at these indices belong.
 pub fn occurrences_at(
     alloc: Global,
-    beside: &Beside<'_>,
+    uncounted: &UncountedContents<'_>,
     places: &[usize],
 ) -> Result<Vec<usize>, AllocError>
-    requires { All (λ i. i < length (entries beside.now.contents.now.operations)) places.now }
-    ensures within { IfOk result (λ all. All (λ p. p < length (entries beside.now.contents.now.occurrences)) all.items) }
-    ensures each { IfOk result (λ all. (p : ℕ) → HasOneOf beside.now.contents.now places.now p → Contains all.items p) }
+    requires { All (λ i. i < length (entries uncounted.now.contents.now.operations)) places.now }
+    ensures within { IfOk result (λ all. All (λ p. p < length (entries uncounted.now.contents.now.occurrences)) all.items) }
+    ensures each { IfOk result (λ all. (p : ℕ) → HasOneOf uncounted.now.contents.now places.now p → Contains all.items p) }
 {
     let mut all = Vec::with_capacity(alloc, places.len())?;
     for place in places {
-        all.push(occurrence_at(beside, *place))?;
+        all.push(occurrence_at(uncounted, *place))?;
     }
     Ok(all)
 }

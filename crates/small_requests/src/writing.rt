@@ -9,12 +9,12 @@ ghost use Rattle.small_requests.specs.Revisions.{HasPlaceFor, written};
 use super::edits::Edit;
 use super::revisions::Revision;
 use plan_basics::OpKey;
-use plan_checks::{Shown, SoundContents, mark_all, set_held, set_nop};
+use plan_checks::{CountedRecords, SoundContents, mark_all, set_held, set_nop};
 use plan_drafts::PlanContents;
 use status_rules::Mark;
 
 /// What is shown, with this written into it, by which it stays sound. It takes no memory and no look.
-pub fn with_revision(shown: Shown, keys: &[OpKey], revision: Revision) -> Shown
+pub fn with_revision(shown: CountedRecords, keys: &[OpKey], revision: Revision) -> CountedRecords
     requires has_place { HasPlaceFor shown.contents revision }
     requires sound { IsSound (written keys.now revision shown.contents) }
     ensures contents { result.contents ≡ written keys.now revision shown.contents }
@@ -31,18 +31,18 @@ pub fn with_revision(shown: Shown, keys: &[OpKey], revision: Revision) -> Shown
 }
 
 /// What is shown, with these operations, which were chosen, marked named. It takes no memory and no look.
-pub fn with_named(shown: Shown, named: &[OpKey]) -> Shown
+pub fn with_named(shown: CountedRecords, named: &[OpKey]) -> CountedRecords
     requires { (m : ℕ) × IsChosen shown.contents m named.now }
     ensures contents { result.contents ≡ named_in named.now shown.contents }
     ensures looks { result.looks ≡ shown.looks }
 {
-    shown.beside().are_sound();
+    shown.uncounted().are_sound();
     shown.mark_all(named, &Mark::Named)
 }
 
 /// The sound plan in which these operations were chosen, which were marked named then: before that they were unmarked. It takes no
 /// memory and no look.
-pub fn without_named(shown: Shown, named: &[OpKey]) -> Shown
+pub fn without_named(shown: CountedRecords, named: &[OpKey]) -> CountedRecords
     requires { (P : Contents) × IsSound P × ((m : ℕ) × IsChosen P m named.now) × (shown.contents ≡ named_in named.now P) }
     ensures contents { (P : Contents) → ((m : ℕ) × IsChosen P m named.now) → shown.contents ≡ named_in named.now P → result.contents ≡ P }
     ensures looks { result.looks ≡ shown.looks }
@@ -51,7 +51,7 @@ pub fn without_named(shown: Shown, named: &[OpKey]) -> Shown
 }
 
 /// The plan into which an edit was written, where this is what stood beside operations. It takes no memory and no look.
-pub fn without_edit(shown: Shown, edit: &Edit, old: Revision) -> Shown
+pub fn without_edit(shown: CountedRecords, edit: &Edit, old: Revision) -> CountedRecords
     requires { (P : Contents) × WasWritten P shown.contents edit.now old }
     ensures contents { (P : Contents) → WasWritten P shown.contents edit.now old → result.contents ≡ P }
     ensures looks { result.looks ≡ shown.looks }

@@ -1,6 +1,6 @@
 pub mod StartLines
 pub mod Allowed
-pub mod BriefedHolders
+pub mod SummarizedHolders
 pub mod ChoiceSteps
 pub mod FreeResources
 pub mod GateSteps

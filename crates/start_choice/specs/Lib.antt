@@ -5,7 +5,7 @@ pub use Rattle.counted_records.specs.plan_laws
 pub use Rattle.counted_records.specs.plan_records
 pub use Rattle.counted_records.specs.plan_status
 pub use Rattle.counted_records.specs.satisfaction
-pub mod BriefedTakings
+pub mod SummarizedTakings
 pub mod Choices
 pub mod ReadyItems
 pub mod Shut

@@ -10,7 +10,7 @@ use Rattle.status_rules.specs.declared.Mark.TheVariants.{Named}
 use Rattle.plan_model.specs.Contents.{Contents, Operation}
 use Rattle.plan_model.specs.Valid.{IsValid}
 use Rattle.plan_model.specs.Code.{contents_code}
-use Rattle.counted_records.specs.States.{ShownState}
+use Rattle.counted_records.specs.States.{CountedState}
 use Rattle.workstations.specs.Workstations.{Workstation}
 use Rattle.workstations.specs.contracts.Capacity as capacity
 use Rattle.workstations.specs.declared.Capacity.{Capacity}
@@ -27,7 +27,7 @@ pub record Counted : Type 0 where
   pub held : Held
 
 -- what is shown of a plan, the moment, and what is given out and held so far
-abbrev pub counted : ShownState → ℕ → List Capacity → Held → Counted
+abbrev pub counted : CountedState → ℕ → List Capacity → Held → Counted
 counted s at given held = record { contents = s.contents; looks = s.looks; at = at; given = given; held = held }
 
 -- the plan has these workstations and special resources, and in it this is given out and held

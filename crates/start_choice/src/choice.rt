@@ -12,7 +12,7 @@ ghost use Rattle.ready_list.specs.declared.entry.ReadyEntry.{ReadyEntry as Ready
 use super::holders::take_needs;
 use super::shut::{is_shut, shut_at};
 use super::taken::{check_start, with_operation};
-use counted_records::{PlanContents, Seen, Shown};
+use counted_records::{CountedRecords, PlanContents, SeenOperation};
 use plan_basics::{Moment, OpKey, Refusal};
 use ready_list::{Gate, ReadyEntry, ReadyList};
 use special_resources::Holdings;
@@ -23,7 +23,7 @@ use workstations::Capacity;
 // Whether the operation at a place is allowed to start at a moment, where this is given out and held; where it is, it counts as
 // started from now on. The error is always `Memory`.
 fn name_at(
-    shown: &mut Shown,
+    shown: &mut CountedRecords,
     given: &mut [Capacity],
     holdings: &mut Holdings,
     shut: &mut [bool],
@@ -38,7 +38,7 @@ fn name_at(
     ensures contents { shown.new.contents ≡ shown.old.contents }
 {
     let seen = shown.see(place);
-    let station = seen.beside.workstation_place_near(seen.operation, place);
+    let station = seen.uncounted.workstation_place_near(seen.operation, place);
     let taken = given[station];
     if check_start(&seen, place, &taken, holdings, at).is_err() {
         return Ok(false);
@@ -46,13 +46,13 @@ fn name_at(
     take_needs(holdings, seen.key, seen.operation)?;
     let taken = with_operation(&taken, seen.operation);
     given[station] = taken;
-    shut[station] = is_shut(&seen.beside.workstations()[station], at, &taken);
+    shut[station] = is_shut(&seen.uncounted.workstations()[station], at, &taken);
     Ok(true)
 }
 
 /// Allows operations of a plan to start at a moment, one after the other, and counts those as started that it allowed.
 struct StartGate {
-    shown: Shown,
+    shown: CountedRecords,
     at: Moment,
     /// What each workstation has given out, at its row's index.
     given: Vec<Capacity>,
@@ -102,8 +102,8 @@ impl Gate for StartGate {
         if is_told_shut(&self.shut, entry.site) {
             return Ok(false);
         }
-        let beside = self.shown.beside();
-        let Some(place) = beside.operation_place_near(&entry.key.op, entry.place) else {
+        let uncounted = self.shown.uncounted();
+        let Some(place) = uncounted.operation_place_near(&entry.key.op, entry.place) else {
             return Ok(false);
         };
         let given = self.given.as_mut_slice();
@@ -131,13 +131,13 @@ pub struct Choice {
 // What is named to start at a moment, in order, where this is given out and held, and these workstations are told to be shut. The
 // error is always `Memory`.
 fn named_with(
-    shown: Shown,
+    shown: CountedRecords,
     ready: &ReadyList,
     at: Moment,
     given: Vec<Capacity>,
     holdings: Holdings,
     shut: Vec<bool>,
-) -> (Shown, Result<Choice, Refusal>)
+) -> (CountedRecords, Result<Choice, Refusal>)
     requires ready { AreReadyEntries shown.contents ready.now.entries }
     requires given { AreGivenOut shown.contents (entries shown.contents.workstations) given.items }
     requires held { AreHeldIn shown.contents holdings.held }
@@ -182,7 +182,7 @@ fn named_with(
 // `Memory`.
 fn shut_in(
     alloc: Global,
-    shown: &Shown,
+    shown: &CountedRecords,
     at: Moment,
     given: &[Capacity],
 ) -> Result<Vec<bool>, Refusal>
@@ -190,7 +190,7 @@ fn shut_in(
     ensures shut { IfOk result (λ shut. AreShut (entries shown.now.contents.workstations) at given.now shut.items) }
     ensures refused { IfErr result (λ r. r ≡ Refusal.Memory) }
 {
-    Ok(shut_at(alloc, shown.beside().workstations(), at, given)?)
+    Ok(shut_at(alloc, shown.uncounted().workstations(), at, given)?)
 }
 
 /// What is named to start at a moment, in order, where this is given out and held: from the front of the ready list, each
@@ -199,12 +199,12 @@ fn shut_in(
 /// workstation is closed or has no server left, and gives back what is shown. The error is always `Memory`.
 pub fn chosen_with(
     alloc: Global,
-    shown: Shown,
+    shown: CountedRecords,
     ready: &ReadyList,
     at: Moment,
     given: Vec<Capacity>,
     holdings: Holdings,
-) -> (Shown, Result<Choice, Refusal>)
+) -> (CountedRecords, Result<Choice, Refusal>)
     requires ready { AreReadyEntries shown.contents ready.now.entries }
     requires given { AreGivenOut shown.contents (entries shown.contents.workstations) given.items }
     requires held { AreHeldIn shown.contents holdings.held }

@@ -4,14 +4,14 @@ ghost use Rattle.std.specs.FinMap.{entries};
 ghost use Rattle.plan_basics.specs.declared.Refusal.{Refusal};
 ghost use Rattle.plan_basics.specs.declared.keys.OpKey.{OpKey as OpKeyValue};
 ghost use Rattle.status_rules.specs.declared.Mark.{Mark};
-ghost use Rattle.counted_records.specs.plan_status.specs.Briefs.{AreBriefs};
+ghost use Rattle.counted_records.specs.plan_status.specs.Summaries.{AreSummaries};
 ghost use Rattle.plan_model.specs.Contents.{Operation};
-ghost use Rattle.start_choice.specs.BriefedTakings.{holder_count, may_hold};
+ghost use Rattle.start_choice.specs.SummarizedTakings.{holder_count, may_hold};
 ghost use Rattle.start_choice.specs.Choices.{AreHeldIn};
 ghost use Rattle.start_choice.specs.Takings.{HaveTaken};
 
 use super::taken::starts_are_known;
-use counted_records::{Brief, Seen, Shown, ValidContents};
+use counted_records::{CountedRecords, OperationSummary, SeenOperation, ValidContents};
 use plan_basics::{OpKey, Refusal};
 use plan_model::OperationRecord;
 use special_resources::Holdings;
@@ -70,15 +70,15 @@ pub fn holdings_in(alloc: Global, contents: &ValidContents) -> Result<Holdings, 
 }
 
 // Whether an operation may hold special resources: starts are known on its workstation, and it is under way or in error.
-fn may_hold(brief: &Brief) -> bool
-    ensures { result ≡ may_hold brief.now }
+fn may_hold(summary: &OperationSummary) -> bool
+    ensures { result ≡ may_hold summary.now }
 {
-    brief.starts_are_known() && brief.mark.holds_resource(true)
+    summary.starts_are_known() && summary.mark.holds_resource(true)
 }
 
 // Takes what the operation at a place holds of what it needs, unless it holds it already, by a look. The error is always `Memory`:
 // then it may have taken a part of it.
-fn take_at(shown: &mut Shown, holdings: &mut Holdings, place: usize) -> Result<(), Refusal>
+fn take_at(shown: &mut CountedRecords, holdings: &mut Holdings, place: usize) -> Result<(), Refusal>
     requires { place < length (entries shown.old.contents.operations) }
     ensures taken { OnOk result ((o : OpKeyValue) → (op : Operation) → slice_get (entries shown.old.contents.operations) place ≡ Some (o, op) → HaveTaken holdings.old.held o op.needs op.mark holdings.new.held) }
     ensures contents { shown.new.contents ≡ shown.old.contents }
@@ -86,28 +86,32 @@ fn take_at(shown: &mut Shown, holdings: &mut Holdings, place: usize) -> Result<(
     ensures most { shown.new.looks ≤ shown.old.looks + 1 }
     ensures refused { IfErr result (λ r. r ≡ Refusal.Memory) }
 {
-    let Seen {
+    let SeenOperation {
         key,
         operation,
-        beside: _,
+        uncounted: _,
     } = shown.see(place);
     take_marked(holdings, key, operation, &operation.mark)
 }
 
 /// Who holds what of special resources: an operation on a workstation where starts are known that is started, undecided or
-/// interrupted holds what it needs; one that ended in error holds what an error keeps. By their briefs no others are looked at, and
+/// interrupted holds what it needs; one that ended in error holds what an error keeps. By their summaries no others are looked at, and
 /// each of these once. The error is always `Memory`.
-pub fn holdings_of(alloc: Global, shown: &mut Shown, briefs: &[Brief]) -> Result<Holdings, Refusal>
-    requires { AreBriefs shown.old.contents briefs.now }
+pub fn holdings_of(
+    alloc: Global,
+    shown: &mut CountedRecords,
+    summaries: &[OperationSummary],
+) -> Result<Holdings, Refusal>
+    requires { AreSummaries shown.old.contents summaries.now }
     ensures held { IfOk result (λ found. AreHeldIn shown.old.contents found.held) }
     ensures contents { shown.new.contents ≡ shown.old.contents }
     ensures fewest { shown.old.looks ≤ shown.new.looks }
-    ensures most { shown.new.looks ≤ shown.old.looks + holder_count briefs.now }
+    ensures most { shown.new.looks ≤ shown.old.looks + holder_count summaries.now }
     ensures refused { IfErr result (λ r. r ≡ Refusal.Memory) }
 {
     let mut holdings = Holdings::new(alloc);
-    for place in 0..briefs.len() {
-        if may_hold(&briefs[place]) {
+    for place in 0..summaries.len() {
+        if may_hold(&summaries[place]) {
             take_at(shown, &mut holdings, place)?;
         }
     }

@@ -12,9 +12,10 @@ mod tallies;
 
 pub use choice::{Choice, chosen_with};
 pub use counted_records::{
-    Beside, Brief, Kept, RecordCopy, Seen, Shown, SoundContents, Standing, ValidContents,
-    attribute_of, briefs_of, count_one, graph_for, is_one_of, mark_all, occurrence_status_with,
-    rerun, set_held, set_nop, settle_up, standings_of, status_with, statuses_of,
+    CountedRecords, OperationSummary, RecordCopy, SeenOperation, SoundContents, Standing,
+    UncountedContents, ValidContents, WaitState, attribute_of, count_one, graph_for, is_one_of,
+    mark_all, occurrence_status_with, rerun, set_held, set_nop, settle_up, standings_of,
+    status_with, statuses_of, summaries_of,
 };
 pub use holders::{holdings_in, holdings_of, take_marked};
 pub use latest::latest_of;

@@ -6,12 +6,14 @@ ghost use Rattle.plan_basics.specs.declared.keys.OpKey.{OpKey};
 ghost use Rattle.plan_model.specs.Contents.{Contents, attribute_at};
 ghost use Rattle.plan_model.specs.Starts.{MayStart};
 ghost use Rattle.plan_model.specs.Holdings.{takes};
-ghost use Rattle.counted_records.specs.plan_status.specs.Briefs.{AreBriefs};
-ghost use Rattle.start_choice.specs.BriefedTakings.{takes_server_briefed};
+ghost use Rattle.counted_records.specs.plan_status.specs.Summaries.{AreSummaries};
+ghost use Rattle.start_choice.specs.SummarizedTakings.{takes_server_by_summary};
 ghost use Rattle.start_choice.specs.Choices.{AreGivenOut, HasTaken, IsStartLine};
 ghost use Rattle.start_choice.specs.Takings.{CanMeetNeed, CanMeetNeeds, CanStart, IsAtMost, MeetsLinesBelow, most_given_out, with_one_more};
 
-use counted_records::{Beside, Brief, Seen, ValidContents, attribute_of};
+use counted_records::{
+    OperationSummary, SeenOperation, UncountedContents, ValidContents, attribute_of,
+};
 use plan_basics::{Attr, Moment, OpKey, Refusal};
 use plan_model::OperationRecord;
 use special_resources::{Holdings, Need};
@@ -37,10 +39,10 @@ pub fn starts_are_known(contents: &ValidContents, operation: &OperationRecord) -
 }
 
 // Whether an operation holds a server of its workstation.
-fn holds_a_server(brief: &Brief) -> bool
-    ensures { result ≡ takes_server_briefed brief.now }
+fn holds_a_server(summary: &OperationSummary) -> bool
+    ensures { result ≡ takes_server_by_summary summary.now }
 {
-    brief.starts_are_known() && brief.mark.holds_server()
+    summary.starts_are_known() && summary.mark.holds_server()
 }
 
 // What is given out, with this much more.
@@ -69,30 +71,35 @@ pub fn with_operation(taken: &Capacity, operation: &OperationRecord) -> Capacity
     with_server(taken, operation.r1, operation.r2)
 }
 
-/// What each workstation has given out, by name, as the briefs of all operations say.
+/// What each workstation has given out, by name, as the summaries of all operations say.
 pub fn given_out_of(
     alloc: Global,
-    beside: &Beside<'_>,
-    briefs: &[Brief],
+    uncounted: &UncountedContents<'_>,
+    summaries: &[OperationSummary],
 ) -> Result<Vec<Capacity>, AllocError>
-    requires { AreBriefs beside.now.contents.now briefs.now }
-    ensures { IfOk result (λ found. AreGivenOut beside.now.contents.now (entries beside.now.contents.now.workstations) found.items) }
+    requires { AreSummaries uncounted.now.contents.now summaries.now }
+    ensures { IfOk result (λ found. AreGivenOut uncounted.now.contents.now (entries uncounted.now.contents.now.workstations) found.items) }
 {
-    let stations = beside.workstations().len();
+    let stations = uncounted.workstations().len();
     let mut given = vec![in alloc; NOTHING; stations]?;
-    for brief in briefs {
-        if holds_a_server(brief) {
-            given[brief.station] = with_server(&given[brief.station], brief.r1, brief.r2);
+    for summary in summaries {
+        if holds_a_server(summary) {
+            given[summary.station] = with_server(&given[summary.station], summary.r1, summary.r2);
         }
     }
     Ok(given)
 }
 
 // Whether the resource of a need is available, and no holding of another operation stands in the way.
-fn has_resource(beside: &Beside<'_>, key: &OpKey, need: &Need, holdings: &Holdings) -> bool
-    ensures { IsTrue result ↔ CanMeetNeed beside.now.contents.now.resources holdings.now.held key.now need.now }
+fn has_resource(
+    uncounted: &UncountedContents<'_>,
+    key: &OpKey,
+    need: &Need,
+    holdings: &Holdings,
+) -> bool
+    ensures { IsTrue result ↔ CanMeetNeed uncounted.now.contents.now.resources holdings.now.held key.now need.now }
 {
-    match beside.resource(&need.name) {
+    match uncounted.resource(&need.name) {
         Some(stock) => stock.available && holdings.fits(need, stock.quantity, *key),
         None => false,
     }
@@ -100,15 +107,15 @@ fn has_resource(beside: &Beside<'_>, key: &OpKey, need: &Need, holdings: &Holdin
 
 // Whether each special resource that an operation needs is available, and no holding of another operation stands in the way.
 fn has_resources(
-    beside: &Beside<'_>,
+    uncounted: &UncountedContents<'_>,
     key: &OpKey,
     operation: &OperationRecord,
     holdings: &Holdings,
 ) -> bool
-    ensures { IsTrue result ↔ CanMeetNeeds beside.now.contents.now.resources holdings.now.held key.now operation.now.needs }
+    ensures { IsTrue result ↔ CanMeetNeeds uncounted.now.contents.now.resources holdings.now.held key.now operation.now.needs }
 {
     for need in operation.needs.as_slice() {
-        if !has_resource(beside, key, need, holdings) {
+        if !has_resource(uncounted, key, need, holdings) {
             return false;
         }
     }
@@ -121,17 +128,17 @@ fn has_resources(
 /// `ResourceBusy` (a special resource isn't available, another operation holds it exclusively, another holds it at all and
 /// the need is exclusive, or what others hold leaves less of it than is needed). Where the operation stands at this place, its workstation isn't searched for.
 pub fn check_start(
-    seen: &Seen<'_>,
+    seen: &SeenOperation<'_>,
     place: usize,
     taken: &Capacity,
     holdings: &Holdings,
     at: Moment,
 ) -> Result<(), Refusal>
-    requires { get seen.now.beside.contents.now.operations seen.now.key.now ≡ Some seen.now.operation.now }
-    ensures ok { OnOk result ((P : Contents) → HasTaken P seen.now.beside.contents.now seen.now.operation.now taken.now holdings.now.held → CanStart P seen.now.key.now seen.now.operation.now at) }
+    requires { get seen.now.uncounted.contents.now.operations seen.now.key.now ≡ Some seen.now.operation.now }
+    ensures ok { OnOk result ((P : Contents) → HasTaken P seen.now.uncounted.contents.now seen.now.operation.now taken.now holdings.now.held → CanStart P seen.now.key.now seen.now.operation.now at) }
     ensures line { IfErr result IsStartLine }
-    ensures refused { IfErr result (λ r. (P : Contents) → HasTaken P seen.now.beside.contents.now seen.now.operation.now taken.now holdings.now.held → ¬ MayStart P seen.now.key.now seen.now.operation.now at r) }
-    ensures least { IfErr result (λ r. (P : Contents) → HasTaken P seen.now.beside.contents.now seen.now.operation.now taken.now holdings.now.held → MeetsLinesBelow P seen.now.key.now seen.now.operation.now at r) }
+    ensures refused { IfErr result (λ r. (P : Contents) → HasTaken P seen.now.uncounted.contents.now seen.now.operation.now taken.now holdings.now.held → ¬ MayStart P seen.now.key.now seen.now.operation.now at r) }
+    ensures least { IfErr result (λ r. (P : Contents) → HasTaken P seen.now.uncounted.contents.now seen.now.operation.now taken.now holdings.now.held → MeetsLinesBelow P seen.now.key.now seen.now.operation.now at r) }
 {
     let operation = seen.operation;
     if operation.held {
@@ -141,11 +148,11 @@ pub fn check_start(
         return Err(Refusal::TooEarly);
     }
     let workstation = seen
-        .beside
+        .uncounted
         .workstation_near(&operation.workstation, place)
         .unwrap();
     workstation.fits(at, taken, u32::from(operation.r1), u32::from(operation.r2))?;
-    if has_resources(&seen.beside, seen.key, operation, holdings) {
+    if has_resources(&seen.uncounted, seen.key, operation, holdings) {
         Ok(())
     } else {
         Err(Refusal::ResourceBusy)

@@ -3,7 +3,7 @@ ghost use Rattle.std.specs.Prelude.{IfOk};
 ghost use Rattle.counted_records.specs.plan_drafts.specs.Places.{AreStatuses};
 ghost use Rattle.counted_records.specs.plan_status.specs.Standings.{AreTallies};
 
-use counted_records::{Beside, count_one};
+use counted_records::{UncountedContents, count_one};
 use status_rules::{Counts, Status};
 use std::alloc::{AllocError, Global};
 
@@ -20,17 +20,17 @@ const NONE_COUNTED: Counts = Counts {
 /// The numbers of each occurrence's operations, in key order.
 pub fn tallies_of(
     alloc: Global,
-    beside: &Beside<'_>,
+    uncounted: &UncountedContents<'_>,
     statuses: &[Status],
 ) -> Result<Vec<Counts>, AllocError>
-    requires { AreStatuses beside.now.contents.now statuses.now }
-    ensures { IfOk result (λ found. AreTallies beside.now.contents.now found.items) }
+    requires { AreStatuses uncounted.now.contents.now statuses.now }
+    ensures { IfOk result (λ found. AreTallies uncounted.now.contents.now found.items) }
 {
-    let occurrences = beside.occurrences().len();
+    let occurrences = uncounted.occurrences().len();
     let mut tallies = vec![in alloc; NONE_COUNTED; occurrences]?;
     for (i, status) in statuses.iter().enumerate() {
-        let key = beside.operation_key(i);
-        let place = beside.occurrence_place_of(key, i);
+        let key = uncounted.operation_key(i);
+        let place = uncounted.occurrence_place_of(key, i);
         count_one(&mut tallies[place], *status);
     }
     Ok(tallies)

@@ -4,7 +4,7 @@ use super::disks::{
     Bytes, End, FusedFiles, FusedStore, Stop, begun, bytes_of, connected, connected_again,
     files_of, files_with,
 };
-use super::outcomes::Outcome;
+use super::outcomes::StopOutcome;
 use super::script::{REST, Told, make};
 use plan_basics::Refusal;
 use sqlite::{Alter, Connection, MemStore};
@@ -96,18 +96,18 @@ pub fn first_opening(alloc: Global) -> Option<Opening> {
 }
 
 // The files that an opening over a connection leaves that is stopped; or what comes of it otherwise.
-fn stopped(alloc: Global, conn: Connection<FusedStore>) -> Result<FusedFiles, Outcome> {
+fn stopped(alloc: Global, conn: Connection<FusedStore>) -> Result<FusedFiles, StopOutcome> {
     match Desk::open(alloc, conn) {
-        Ok(_) => Err(Outcome::NoStop),
+        Ok(_) => Err(StopOutcome::NoStop),
         Err((Refusal::Store, conn)) => Ok(files_of(conn)),
-        Err(_) => Err(Outcome::Otherwise("a stop in an opening isn't told as Store")),
+        Err(_) => Err(StopOutcome::Otherwise("a stop in an opening isn't told as Store")),
     }
 }
 
 // The files that an opening leaves that is stopped so.
-fn left_by(alloc: Global, bytes: &Bytes, stop: Stop) -> Result<FusedFiles, Outcome> {
+fn left_by(alloc: Global, bytes: &Bytes, stop: Stop) -> Result<FusedFiles, StopOutcome> {
     let Ok(files) = files_with(alloc, bytes, stop) else {
-        return Err(Outcome::Otherwise(super::FAILED));
+        return Err(StopOutcome::Otherwise(super::FAILED));
     };
     match connected(alloc, files) {
         Ok(conn) => stopped(alloc, conn),
@@ -121,25 +121,25 @@ fn recovered<S: Alter + Drop>(
     alloc: Global,
     opening: &Opening,
     mut conn: Connection<S>,
-) -> Outcome {
+) -> StopOutcome {
     match tables_text(alloc, &mut conn) {
         Ok(text) if text == opening.first || text == opening.second => {}
-        _ => return Outcome::Otherwise("a stopped opening leaves tables of no version"),
+        _ => return StopOutcome::Otherwise("a stopped opening leaves tables of no version"),
     }
     match text_after_rest(alloc, conn) {
-        Some(text) if text == opening.last => Outcome::Recovered,
-        _ => Outcome::Otherwise("the night of a stopped opening ends in other tables"),
+        Some(text) if text == opening.last => StopOutcome::Recovered,
+        _ => StopOutcome::Otherwise("the night of a stopped opening ends in other tables"),
     }
 }
 
 /// What comes of an opening where the files stop so and stand so afterwards.
-pub fn outcome_of_opening(alloc: Global, opening: &Opening, stop: Stop, end: End) -> Outcome {
+pub fn outcome_of_opening(alloc: Global, opening: &Opening, stop: Stop, end: End) -> StopOutcome {
     let files = match left_by(alloc, &opening.files, stop) {
         Ok(files) => files,
         Err(outcome) => return outcome,
     };
     match connected_again(alloc, files, end) {
         Some(conn) => recovered(alloc, opening, conn),
-        None => Outcome::Otherwise("what a stopped opening left can't be opened"),
+        None => StopOutcome::Otherwise("what a stopped opening left can't be opened"),
     }
 }

@@ -10,7 +10,7 @@ use wires::{get, lacks_all, tables_text};
 
 /// What comes of a stop.
 #[derive(Clone, Copy, Debug, PartialEq)]
-pub enum Outcome {
+pub enum StopOutcome {
     /// The script ended before it.
     NoStop,
     /// The tables were as before the step that was stopped, or after it, and the script went on to its end.
@@ -97,7 +97,7 @@ fn ran_over<S: Alter + Drop>(alloc: Global, conn: Connection<S>) -> (Connection<
 }
 
 // What is left where the script stops on files that stop so; or what comes of it otherwise.
-fn left_by(alloc: Global, stop: Stop) -> Result<Left, Outcome> {
+fn left_by(alloc: Global, stop: Stop) -> Result<Left, StopOutcome> {
     let (files, ran) = match begun(alloc, stop) {
         Ok(conn) => {
             let (conn, ran) = ran_over(alloc, conn);
@@ -106,9 +106,9 @@ fn left_by(alloc: Global, stop: Stop) -> Result<Left, Outcome> {
         Err(files) => (files, Ran::Stopped(0)),
     };
     match ran {
-        Ran::Whole => Err(Outcome::NoStop),
+        Ran::Whole => Err(StopOutcome::NoStop),
         Ran::Stopped(at) => Ok(Left { at, files }),
-        Ran::Wrong(what) => Err(Outcome::Otherwise(what)),
+        Ran::Wrong(what) => Err(StopOutcome::Otherwise(what)),
     }
 }
 
@@ -148,14 +148,14 @@ fn gone_on<S: Alter + Drop>(
     texts: &[Vec<u8>],
     mut desk: Desk<S>,
     at: usize,
-) -> Outcome {
+) -> StopOutcome {
     if !goes_on(alloc, &mut desk, at.saturating_sub(1)) {
-        return Outcome::Otherwise("a step after the stop is answered otherwise");
+        return StopOutcome::Otherwise("a step after the stop is answered otherwise");
     }
     let mut conn = desk.close();
     match tables_text(alloc, &mut conn) {
-        Ok(text) if texts.last().is_some_and(|last| *last == text) => Outcome::Recovered,
-        _ => Outcome::Otherwise("the script ends in other tables"),
+        Ok(text) if texts.last().is_some_and(|last| *last == text) => StopOutcome::Recovered,
+        _ => StopOutcome::Otherwise("the script ends in other tables"),
     }
 }
 
@@ -165,25 +165,25 @@ fn recovered<S: Alter + Drop>(
     texts: &[Vec<u8>],
     mut conn: Connection<S>,
     at: usize,
-) -> Outcome {
+) -> StopOutcome {
     let text = match tables_text(alloc, &mut conn) {
         Ok(text) if may_be_left(texts, at, &text) => text,
-        _ => return Outcome::Otherwise("a stop leaves other tables"),
+        _ => return StopOutcome::Otherwise("a stop leaves other tables"),
     };
     match desk_over(alloc, conn, &text) {
         Some(desk) => gone_on(alloc, texts, desk, at),
-        None => Outcome::Otherwise("no desk is opened over what a stop left"),
+        None => StopOutcome::Otherwise("no desk is opened over what a stop left"),
     }
 }
 
 /// What comes of the script where the files stop so and stand so afterwards, by the texts of a run without a stop.
-pub fn outcome_of(alloc: Global, texts: &[Vec<u8>], stop: Stop, end: End) -> Outcome {
+pub fn outcome_of(alloc: Global, texts: &[Vec<u8>], stop: Stop, end: End) -> StopOutcome {
     let Left { at, files } = match left_by(alloc, stop) {
         Ok(left) => left,
         Err(outcome) => return outcome,
     };
     match connected_again(alloc, files, end) {
         Some(conn) => recovered(alloc, texts, conn, at),
-        None => Outcome::Otherwise("what a stop left can't be opened"),
+        None => StopOutcome::Otherwise("what a stop left can't be opened"),
     }
 }

@@ -2,7 +2,7 @@
 use super::FAILED;
 use super::disks::{End, Stop};
 use super::openings::{Opening, first_opening, outcome_of_opening};
-use super::outcomes::{Outcome, outcome_of};
+use super::outcomes::{StopOutcome, outcome_of};
 use super::script::texts;
 use std::alloc::Global;
 
@@ -18,7 +18,7 @@ enum Stopped {
 
 impl Stopped {
     // What comes of a stop.
-    fn outcome(&self, alloc: Global, stop: Stop, end: End) -> Outcome {
+    fn outcome(&self, alloc: Global, stop: Stop, end: End) -> StopOutcome {
         match self {
             Stopped::Script(texts) => outcome_of(alloc, texts, stop, end),
             Stopped::Opening(opening) => outcome_of_opening(alloc, opening, stop, end),
@@ -30,9 +30,9 @@ impl Stopped {
 fn stops_in(alloc: Global, stopped: &Stopped, is_log: bool, end: End) -> Result<u64, &'static str> {
     for calls in 0..MOST_CALLS {
         match stopped.outcome(alloc, Stop { is_log, calls }, end) {
-            Outcome::Recovered => {}
-            Outcome::NoStop => return Ok(calls),
-            Outcome::Otherwise(what) => return Err(what),
+            StopOutcome::Recovered => {}
+            StopOutcome::NoStop => return Ok(calls),
+            StopOutcome::Otherwise(what) => return Err(what),
         }
     }
     Err("there is no end of calls")

@@ -5,5 +5,5 @@
 mod sweeps;
 mod taking;
 
-pub use sweeps::{Outcome, SPARES, Sweep, swept};
+pub use sweeps::{MemoryOutcome, SPARES, Sweep, swept};
 pub use taking::Held;

@@ -11,7 +11,7 @@ const SPARE: usize = 144;
 
 /// What comes of a try.
 #[derive(Clone, Copy, PartialEq, Eq)]
-pub enum Outcome {
+pub enum MemoryOutcome {
     /// What is to come of it.
     Done,
     /// It is refused for want of memory.
@@ -24,19 +24,19 @@ pub enum Outcome {
 #[derive(Clone, Copy)]
 pub struct Sweep {
     pub refused: u32,
-    pub last: Outcome,
+    pub last: MemoryOutcome,
 }
 
 impl Sweep {
     // Where memory can't be taken.
     const FAILED: Sweep = Sweep {
         refused: 0,
-        last: Outcome::Otherwise,
+        last: MemoryOutcome::Otherwise,
     };
 
     /// Whether it was refused more than so many times, and then done.
     pub fn is_done_after(&self, refused: u32) -> bool {
-        self.last == Outcome::Done && self.refused > refused
+        self.last == MemoryOutcome::Done && self.refused > refused
     }
 }
 
@@ -50,13 +50,17 @@ fn spare_blocks(alloc: Global) -> Result<Vec<Vec<u8>>, AllocError> {
 
 // Tries a thing until it comes to anything but a refusal for want of memory, at most so many times. After each refusal one
 // spare block is given back.
-fn tried_again<F: FnMut() -> Outcome>(spares: &mut Vec<Vec<u8>>, most: usize, mut tried: F) -> Sweep
+fn tried_again<F: FnMut() -> MemoryOutcome>(
+    spares: &mut Vec<Vec<u8>>,
+    most: usize,
+    mut tried: F,
+) -> Sweep
     requires { F.IsAlwaysCallable tried }
 {
     let mut refused = 0u32;
     for _ in 0..most {
         let last = tried();
-        if last != Outcome::WithoutMemory {
+        if last != MemoryOutcome::WithoutMemory {
             return Sweep { refused, last };
         }
         refused = refused.saturating_add(1);
@@ -64,13 +68,13 @@ fn tried_again<F: FnMut() -> Outcome>(spares: &mut Vec<Vec<u8>>, most: usize, mu
     }
     Sweep {
         refused,
-        last: Outcome::WithoutMemory,
+        last: MemoryOutcome::WithoutMemory,
     }
 }
 
 /// Tries a thing while all memory is taken, and again each time that one more block is given back, until it comes to
 /// anything but a refusal for want of memory; at most so many times. Then all memory is given back.
-pub fn swept<F: FnMut() -> Outcome>(alloc: Global, most: usize, tried: F) -> Sweep
+pub fn swept<F: FnMut() -> MemoryOutcome>(alloc: Global, most: usize, tried: F) -> Sweep
     requires { F.IsAlwaysCallable tried }
 {
     match spare_blocks(alloc) {

@@ -37,7 +37,7 @@ use Rattle.text_faults.specs.declared.additions.faults.AddedText.{AddedText}
 use Rattle.text_faults.specs.declared.additions.faults.AddedText.TheVariants as text
 use Rattle.text_faults.specs.declared.additions.faults.AddedFault.{AddedFault}
 use Rattle.text_faults.specs.declared.additions.faults.AddedFault.TheVariants as of_added
-use Rattle.text_faults.specs.AddedFaults.{SaysOccurrence, IsOwn, IsJudged, IsBeside, IsFaultHere}
+use Rattle.text_faults.specs.AddedFaults.{SaysOccurrence, IsOwn, IsJudged, IsAdditionFault, IsFaultHere}
 
 -- ---- places of items
 says_get : (items : List Item) (place : ℕ) (x : Item) → SaysAt (map Some items) place x → slice_get items place ≡ Some x
@@ -273,7 +273,7 @@ module _ (added : AddedText) (items : List Item) (come : ComeInTogether items) (
       distinct i j x lt (slice_get_within items j y at_y)
       (ap key_of (get_or_from_slice_get items i x x at_x) ∙ ap key.Occurrence same ∙ sym (ap key_of (get_or_from_slice_get items j y x at_y)))
 
-  never_beside : (place : ℕ) (k : AddedFault) → ¬ IsBeside added Said place k
+  never_beside : (place : ℕ) (k : AddedFault) → ¬ IsAdditionFault added Said place k
   never_beside place (of_added.OfRecord f) h = h
   never_beside place of_added.NotAdded h = h.2 (All-contains MayComeIn items h.0 come.may (at_place items place h.0 (says_get items place h.0 h.1)))
   never_beside place (of_added.AnotherOccurrence first) h = never_two first place h.2.0 h.1 (one h.0) h.3

@@ -14,8 +14,8 @@ use Rattle.text_faults.specs.declared.additions.faults.AddedText.{AddedText}
 use Rattle.text_faults.specs.declared.additions.faults.AddedFault.{AddedFault}
 use Rattle.text_faults.specs.declared.additions.faults.AddedFault.TheVariants as of_added
 use Rattle.text_faults.specs.declared.additions.faults.PlacedFault.{PlacedFault}
-use Rattle.text_faults.specs.AddedFaults.{IsJudged, IsBeside, IsFaultHere, IsFaultOfAdded, AreToldBelow, IsToldAt, IsBesideAt}
-use Rattle.text_faults.proofs.BesideLaws.{beside_within}
+use Rattle.text_faults.specs.AddedFaults.{IsJudged, IsAdditionFault, IsFaultHere, IsFaultOfAdded, AreToldBelow, IsToldAt, IsAdditionFaultAt}
+use Rattle.text_faults.proofs.AdditionFaultLaws.{beside_within}
 
 -- a path that returns isn't judged
 never_returning : (added : AddedText) (said : Sayings) (place : ℕ) (f : Fault) → IsReturning said place f → ¬ IsJudged added said place f
@@ -23,7 +23,7 @@ never_returning added said place fault.Returns h j = j
 never_returning added said place _ h j = h
 
 -- what is beside is a fault
-beside_here : (added : AddedText) (records : List Fields) (said : Sayings) (place : ℕ) (k : AddedFault) → IsBeside added said place k → IsFaultHere added records said place k
+beside_here : (added : AddedText) (records : List Fields) (said : Sayings) (place : ℕ) (k : AddedFault) → IsAdditionFault added said place k → IsFaultHere added records said place k
 beside_here added records said place (of_added.OfRecord f) h = absurd h
 beside_here added records said place of_added.NotAdded h = h
 beside_here added records said place (of_added.AnotherOccurrence n) h = h
@@ -43,7 +43,7 @@ module _ (added : AddedText) (records : List Fields) (said : Sayings) (are : Are
 
   module _
       (found : List RecordFault) (sound : All (λ (f : RecordFault). IsFault records f.place f.fault) found) (complete : (f : RecordFault) → IsFaultOfRecord records f.place f.fault → Contains found f)
-      (judged beside : List PlacedFault) (told : AreToldBelow (IsToldAt added said found) (length found) judged) (others : AreToldBelow (IsBesideAt added said) (length said) beside) where
+      (judged beside : List PlacedFault) (told : AreToldBelow (IsToldAt added said found) (length found) judged) (others : AreToldBelow (IsAdditionFaultAt added said) (length said) beside) where
     from_judged : (f : PlacedFault) → Contains judged f → IsFaultHere added records said f.place f.fault
     from_judged f has =
         let h = (told f).0 has in
@@ -58,9 +58,9 @@ module _ (added : AddedText) (records : List Fields) (said : Sayings) (are : Are
     from_beside f has =
         let h = (others f).0 has in
         let r = h.2 in
-        beside_here added records said f.place f.fault (subst (λ i. IsBeside added said i f.fault) (sym r.0) r.1)
+        beside_here added records said f.place f.fault (subst (λ i. IsAdditionFault added said i f.fault) (sym r.0) r.1)
 
-    to_beside : (f : PlacedFault) → IsBeside added said f.place f.fault → Contains (judged ++ beside) f
+    to_beside : (f : PlacedFault) → IsAdditionFault added said f.place f.fault → Contains (judged ++ beside) f
     to_beside f h = Contains-append_right judged beside f ((others f).1 (f.place, beside_within added said f.place f.fault h, (refl, h)))
 
     to_judged : (f : PlacedFault) (g : Fault) → f.fault ≡ of_added.OfRecord g → IsFaultAt records said f.place g → IsJudged added said f.place g → Contains (judged ++ beside) f
@@ -71,9 +71,9 @@ module _ (added : AddedText) (records : List Fields) (said : Sayings) (are : Are
 
     to_all : (f : PlacedFault) (k : AddedFault) → f.fault ≡ k → IsFaultHere added records said f.place k → Contains (judged ++ beside) f
     to_all f (of_added.OfRecord g) is h = to_judged f g is h.0 h.1
-    to_all f of_added.NotAdded is h = to_beside f (subst (IsBeside added said f.place) (sym is) h)
-    to_all f (of_added.AnotherOccurrence n) is h = to_beside f (subst (IsBeside added said f.place) (sym is) h)
-    to_all f of_added.Elsewhere is h = to_beside f (subst (IsBeside added said f.place) (sym is) h)
+    to_all f of_added.NotAdded is h = to_beside f (subst (IsAdditionFault added said f.place) (sym is) h)
+    to_all f (of_added.AnotherOccurrence n) is h = to_beside f (subst (IsAdditionFault added said f.place) (sym is) h)
+    to_all f of_added.Elsewhere is h = to_beside f (subst (IsAdditionFault added said f.place) (sym is) h)
 
     pub all_here : (f : PlacedFault) → Contains (judged ++ beside) f ↔ IsFaultHere added records said f.place f.fault
     all_here f = (

@@ -1,6 +1,6 @@
 pub mod Reading
 pub mod ComingIn
-pub mod BesideLaws
+pub mod AdditionFaultLaws
 pub mod Telling
 pub mod Once
 pub mod Here

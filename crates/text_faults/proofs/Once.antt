@@ -14,7 +14,7 @@ use Rattle.text_faults.specs.declared.additions.faults.AddedText.{AddedText}
 use Rattle.text_faults.specs.declared.additions.faults.AddedFault.{AddedFault}
 use Rattle.text_faults.specs.declared.additions.faults.AddedFault.TheVariants as of_added
 use Rattle.text_faults.specs.declared.additions.faults.PlacedFault.{PlacedFault}
-use Rattle.text_faults.specs.AddedFaults.{IsBeside, AreToldBelow, IsToldOf, IsToldAt, IsBesideAt}
+use Rattle.text_faults.specs.AddedFaults.{IsAdditionFault, AreToldBelow, IsToldOf, IsToldAt, IsAdditionFaultAt}
 
 -- ---- two lists that have none in common
 module _ {X : Type 0} where
@@ -84,7 +84,7 @@ module _ (added : AddedText) (said : Sayings) (found : List RecordFault) (once :
       once before.0 n g lt within (first ∙ same ∙ sym second)
 
 -- what is beside of two records is two
-pub not_beside_before : (added : AddedText) (said : Sayings) (n : ℕ) (faults : List PlacedFault) → AreToldBelow (IsBesideAt added said) n faults → (f : PlacedFault) → IsBesideAt added said n f → ¬ Contains faults f
+pub not_beside_before : (added : AddedText) (said : Sayings) (n : ℕ) (faults : List PlacedFault) → AreToldBelow (IsAdditionFaultAt added said) n faults → (f : PlacedFault) → IsAdditionFaultAt added said n f → ¬ Contains faults f
 not_beside_before added said n faults are f here has =
     let before = (are f).0 has in
     let lt = before.1 in
@@ -93,8 +93,8 @@ not_beside_before added said n faults are f here has =
     omega (arith, lt, at, now)
 
 -- and none of it is a plan's
-pub none_in_both : (added : AddedText) (said : Sayings) (found : List RecordFault) (n m : ℕ) (judged beside : List PlacedFault) → AreToldBelow (IsToldAt added said found) n judged → AreToldBelow (IsBesideAt added said) m beside → (f : PlacedFault) → Contains judged f → ¬ Contains beside f
+pub none_in_both : (added : AddedText) (said : Sayings) (found : List RecordFault) (n m : ℕ) (judged beside : List PlacedFault) → AreToldBelow (IsToldAt added said found) n judged → AreToldBelow (IsAdditionFaultAt added said) m beside → (f : PlacedFault) → Contains judged f → ¬ Contains beside f
 none_in_both added said found n m judged beside told others f has too =
     let first = ((told f).0 has).2 in
     let second = (others f).0 too in
-    subst (IsBeside added said second.0) first.2.1 second.2.1
+    subst (IsAdditionFault added said second.0) first.2.1 second.2.1

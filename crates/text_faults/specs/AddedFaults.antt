@@ -62,16 +62,16 @@ IsJudged added said place (fault.Undefined (key.Operation o)) = SaysNeedOf said 
 IsJudged added said place _ = ⊥
 
 -- what is wrong with a record of what is added beside that: a second occurrence in an addition alone
-abbrev pub IsBeside : AddedText → Sayings → ℕ → AddedFault → Type 0
-IsBeside added said place (of_added.OfRecord f) = ⊥
-IsBeside added said place of_added.NotAdded = (x : Item) × SaysAt said place x × ¬ MayComeIn x
-IsBeside added said place (of_added.AnotherOccurrence first) = (added ≡ text.Addition) × SaysOccurrence said place × IsFirstOccurrence said first × (first < place)
-IsBeside added said place of_added.Elsewhere = IsElsewhere said place
+abbrev pub IsAdditionFault : AddedText → Sayings → ℕ → AddedFault → Type 0
+IsAdditionFault added said place (of_added.OfRecord f) = ⊥
+IsAdditionFault added said place of_added.NotAdded = (x : Item) × SaysAt said place x × ¬ MayComeIn x
+IsAdditionFault added said place (of_added.AnotherOccurrence first) = (added ≡ text.Addition) × SaysOccurrence said place × IsFirstOccurrence said first × (first < place)
+IsAdditionFault added said place of_added.Elsewhere = IsElsewhere said place
 
 -- a fault of the record at the place, where the records say this
 abbrev pub IsFaultHere : AddedText → List Fields → Sayings → ℕ → AddedFault → Type 0
 IsFaultHere added records said place (of_added.OfRecord f) = IsFaultAt records said place f × IsJudged added said place f
-IsFaultHere added records said place other = IsBeside added said place other
+IsFaultHere added records said place other = IsAdditionFault added said place other
 
 -- a fault of the records of what is added, at the place
 abbrev pub IsFaultOfAdded : AddedText → List Fields → ℕ → AddedFault → Type 0
@@ -104,5 +104,5 @@ abbrev pub IsToldAt : AddedText → Sayings → List RecordFault → ℕ → Pla
 IsToldAt added said found i f = (g : RecordFault) × (slice_get found i ≡ Some g) × IsToldOf added said g f
 
 -- it is what is beside of the record at that place
-abbrev pub IsBesideAt : AddedText → Sayings → ℕ → PlacedFault → Type 0
-IsBesideAt added said i f = (f.place ≡ i) × IsBeside added said i f.fault
+abbrev pub IsAdditionFaultAt : AddedText → Sayings → ℕ → PlacedFault → Type 0
+IsAdditionFaultAt added said i f = (f.place ≡ i) × IsAdditionFault added said i f.fault

@@ -13,7 +13,7 @@ ghost use Rattle.tracker_receipts.specs.Judging.{numbered_by};
 ghost use Rattle.tracker_receipts.specs.Stored.{columns_of};
 ghost use Rattle.desk_tables.specs.Steps.{IfAgain, IfNew, IsNumberedStepFor};
 
-use super::steps::{NumberedStep, Outcome};
+use super::steps::{NumberedOutcome, NumberedStep};
 use plan_basics::{OpKey, Refusal, TrackerName};
 use plan_core::Plan;
 use plan_records::Request;
@@ -33,7 +33,7 @@ pub fn prepare_numbered(
     number: u64,
     text: &[u8],
     request: &Request,
-) -> Result<Outcome, Refusal>
+) -> Result<NumberedOutcome, Refusal>
     ensures unchanged { plan.new ≡ plan.old }
     ensures again { IfOk result (IfAgain (λ named. AnswersAgain (get receipts.now tracker.now) (numbered_by tracker.now number text.now request.now) (accepted named))) }
     ensures new { IfOk result (IfNew (IsNumberedStepFor plan.old receipts.now (numbered_by tracker.now number text.now request.now))) }
@@ -43,16 +43,16 @@ pub fn prepare_numbered(
     let alloc = plan.alloc();
     match receipts.judge(tracker, number, text) {
         Judged::New => {}
-        Judged::Again(named) => return Ok(Outcome::Again(Vec::from_slice(alloc, named)?)),
+        Judged::Again(named) => return Ok(NumberedOutcome::Again(Vec::from_slice(alloc, named)?)),
         Judged::Refused(refusal) => return Err(refusal),
     }
-    look_at(plan, tracker, text);
+    read_for_proof(plan, tracker, text);
     if !receipts.has_room(tracker, number, text) {
         return Err(refused_without_room(plan, request));
     }
     let prepared = plan.prepare(request)?;
     let (receipt, row) = kept(alloc, tracker, number, text, prepared.named())?;
-    Ok(Outcome::New(NumberedStep {
+    Ok(NumberedOutcome::New(NumberedStep {
         tracker: *tracker,
         prepared,
         receipt,
@@ -62,7 +62,7 @@ pub fn prepare_numbered(
 
 // The plan, the tracker's name and the text are looked at for the proof alone, which learns that they are sound and
 // legal.
-fn look_at(plan: &Plan, tracker: &TrackerName, text: &[u8])
+fn read_for_proof(plan: &Plan, tracker: &TrackerName, text: &[u8])
     ensures sound { IsSoundPlan plan.now.plan }
     ensures legal { (number : ℕ) → (q : Request) → IsNumbered (numbered_by tracker.now number text.now q) }
 {

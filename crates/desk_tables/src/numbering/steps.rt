@@ -25,7 +25,7 @@ pub struct NumberedStep {
 
 /// What a numbered request that isn't refused leads to.
 #[derive(Drop)]
-pub enum Outcome {
+pub enum NumberedOutcome {
     /// It was accepted before: the keys that its reply named then. Nothing changes.
     Again(Vec<OpKey>),
     /// It is new and accepted.

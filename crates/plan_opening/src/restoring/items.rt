@@ -113,7 +113,7 @@ pub fn items_of(alloc: Global, said: &Said, rows: &[PlanRow]) -> Result<Vec<Item
 }
 
 // The key is looked at for the proof alone, which learns that it is legal.
-fn look_at(key: &OccKey)
+fn read_for_proof(key: &OccKey)
     ensures { IsOccurrenceKey key.now }
 {
     let _ = key.app.as_bytes();
@@ -124,7 +124,7 @@ fn look_at(key: &OccKey)
 fn is_key_in_range(key: &OpKey) -> bool
     ensures { IsTrue result ↔ IsOperationKey key.now }
 {
-    look_at(&key.occurrence);
+    read_for_proof(&key.occurrence);
     key.number >= LEAST_NUMBER
 }
 
@@ -180,7 +180,7 @@ fn is_in_range(item: &Item) -> bool
             priority,
             deadline,
         } => {
-            look_at(key);
+            read_for_proof(key);
             let _ = deadline.minute();
             (LOWEST_PRIORITY..=HIGHEST_PRIORITY).contains(priority)
         }

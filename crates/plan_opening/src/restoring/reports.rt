@@ -12,7 +12,7 @@ use plan_records::{OperationRow, PlanRow};
 use status_rules::Mark;
 
 // A mark is looked at for the proof alone, which learns that its code is legal.
-fn look_at(mark: &Mark)
+fn read_for_proof(mark: &Mark)
     ensures { (code : Name) → mark.now ≡ Mark.Error code → IsName 4 code }
 {
     if let Mark::Error(code) = mark {
@@ -38,7 +38,7 @@ fn put_report(contents: &mut PlanContents, row: &OperationRow)
     ensures reported { contents.new ≡ revised (is_at row.now.op) (with_report row.now) contents.old }
     ensures valid { IsValid contents.new }
 {
-    look_at(&row.mark);
+    read_for_proof(&row.mark);
     if let Some(operation) = contents.operation(&row.op) {
         let operation = with_report(operation, row);
         contents.set_operation(&row.op, operation);

@@ -13,7 +13,7 @@ use super::occurrences::occurrences_are_deleted_whole;
 use super::order::reports_are_in_order;
 use plan_basics::Refusal;
 use plan_rows::{
-    SoundContents, Standing, ValidContents, briefs_of, graph_for, holdings_in, standings_of,
+    SoundContents, Standing, ValidContents, graph_for, holdings_in, standings_of, summaries_of,
 };
 use special_resources::Holdings;
 use std::alloc::Global;
@@ -58,8 +58,8 @@ fn is_sound(alloc: Global, contents: &ValidContents) -> Result<bool, Refusal>
         return Ok(false);
     }
     let graph = graph_for(alloc, contents)?;
-    let briefs = briefs_of(alloc, contents)?;
-    let standings = standings_of(alloc, &briefs, &graph)?;
+    let summaries = summaries_of(alloc, contents)?;
+    let standings = standings_of(alloc, &summaries, &graph)?;
     let holdings = holdings_in(alloc, contents)?;
     Ok(reports_and_holders_are_sound(contents, &standings, &holdings))
 }

@@ -3,11 +3,11 @@ ghost use Rattle.std.specs.Prelude.{◌≡◌, ◌≢◌, ◌↔◌, ◌⊎◌, 
 ghost use Rattle.std.specs.List.{AllPairs};
 ghost use Rattle.record_faults.specs.Faults.{StayOnce};
 ghost use Rattle.record_faults.specs.Sayings.{texts_of, given, AreSayings, IsIndex};
-ghost use Rattle.text_faults.specs.AddedFaults.{IsFaultHere, IsFaultOfAdded, DenoteSomeAdded, IsFirstIfAny, IsToldOf, IsToldAt, IsBesideAt, AreToldBelow};
+ghost use Rattle.text_faults.specs.AddedFaults.{IsFaultHere, IsFaultOfAdded, DenoteSomeAdded, IsFirstIfAny, IsToldOf, IsToldAt, IsAdditionFaultAt, AreToldBelow};
 ghost use Rattle.text_faults.specs.declared.additions.faults.PlacedFault.{PlacedFault};
 
 use super::faults::{AddedFault, AddedText, PlacedFault};
-use super::judging::{beside, is_judged};
+use super::judging::{addition_fault, is_judged};
 use super::occurrences::first_occurrence;
 use plan_items::Item;
 use record_faults::{Fields, Index, RecordFault, faults_of, index_of, keys_given, sayings_of};
@@ -57,7 +57,7 @@ fn judged_of(
 }
 
 // What is wrong with the record at a place beside that goes to the end.
-fn tell_beside(
+fn tell_addition_fault(
     faults: &mut Vec<PlacedFault>,
     added: AddedText,
     said: &[Option<Item>],
@@ -68,10 +68,10 @@ fn tell_beside(
     requires index { IsIndex (given said.now) index.now }
     requires first { IsFirstIfAny said.now first }
     requires place { place < length said.now }
-    ensures told { OnOk result ((f : PlacedFault) → Contains faults.new.items f ↔ (Contains faults.old.items f ⊎ IsBesideAt added said.now place f)) }
-    ensures once { OnOk result (StayOnce (IsBesideAt added said.now place) faults.old.items faults.new.items) }
+    ensures told { OnOk result ((f : PlacedFault) → Contains faults.new.items f ↔ (Contains faults.old.items f ⊎ IsAdditionFaultAt added said.now place f)) }
+    ensures once { OnOk result (StayOnce (IsAdditionFaultAt added said.now place) faults.old.items faults.new.items) }
 {
-    let Some(fault) = beside(added, said, index, first, place) else {
+    let Some(fault) = addition_fault(added, said, index, first, place) else {
         return Ok(());
     };
     faults.extend_from_slice(&[PlacedFault { place, fault }])?;
@@ -79,7 +79,7 @@ fn tell_beside(
 }
 
 // What is wrong with the records beside that.
-fn beside_of(
+fn addition_faults_of(
     alloc: Global,
     added: AddedText,
     said: &[Option<Item>],
@@ -88,12 +88,12 @@ fn beside_of(
 ) -> Result<Vec<PlacedFault>, AllocError>
     requires index { IsIndex (given said.now) index.now }
     requires first { IsFirstIfAny said.now first }
-    ensures told { IfOk result (λ v. AreToldBelow (IsBesideAt added said.now) (length said.now) v.items) }
+    ensures told { IfOk result (λ v. AreToldBelow (IsAdditionFaultAt added said.now) (length said.now) v.items) }
     ensures once { IfOk result (λ v. AllPairs (λ a b. a ≢ b) v.items) }
 {
     let mut faults = Vec::new(alloc);
     for place in 0..said.len() {
-        tell_beside(&mut faults, added, said, index, first, place)?;
+        tell_addition_fault(&mut faults, added, said, index, first, place)?;
     }
     Ok(faults)
 }
@@ -121,7 +121,7 @@ fn faults_here(
     let first = first_occurrence(said);
     let found = faults_of(alloc, records)?;
     let mut faults = judged_of(alloc, added, &found, said, &index)?;
-    let others = beside_of(alloc, added, said, &index, first)?;
+    let others = addition_faults_of(alloc, added, said, &index, first)?;
     faults.extend_from_slice(&others)?;
     Ok(faults)
 }

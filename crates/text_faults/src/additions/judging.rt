@@ -5,7 +5,7 @@ ghost use Rattle.plan_items.specs.declared.Item.TheVariants as item;
 ghost use Rattle.plan_drafts.specs.ExtensionItems.{MayComeIn};
 ghost use Rattle.record_faults.specs.Sayings.{Sayings, SaysAt, given, IsIndex};
 ghost use Rattle.record_faults.specs.declared.faults.Fault.TheVariants as fault;
-ghost use Rattle.text_faults.specs.AddedFaults.{IsFirstIfAny, IsJudged, IsBeside, IsElsewhere, SaysNeedOf};
+ghost use Rattle.text_faults.specs.AddedFaults.{IsFirstIfAny, IsJudged, IsAdditionFault, IsElsewhere, SaysNeedOf};
 ghost use Rattle.text_faults.specs.declared.additions.faults.AddedText.{AddedText};
 ghost use Rattle.text_faults.specs.declared.additions.faults.AddedText.TheVariants as text;
 ghost use Rattle.text_faults.specs.declared.additions.faults.AddedFault.{AddedFault};
@@ -114,7 +114,7 @@ fn earlier(
 ) -> Option<usize>
     requires first { IsFirstIfAny said.now first }
     requires place { place < length said.now }
-    ensures { (n : ℕ) → (result ≡ Some n) ↔ IsBeside added said.now place (of_added.AnotherOccurrence n) }
+    ensures { (n : ℕ) → (result ≡ Some n) ↔ IsAdditionFault added said.now place (of_added.AnotherOccurrence n) }
 {
     if !is_of_one(added) {
         return None;
@@ -139,7 +139,7 @@ fn is_elsewhere(index: &Index, item: &Item) -> bool
 }
 
 // What is wrong with a record of what is added beside what may be with a plan's.
-pub fn beside(
+pub fn addition_fault(
     added: AddedText,
     said: &[Option<Item>],
     index: &Index,
@@ -149,7 +149,7 @@ pub fn beside(
     requires index { IsIndex (given said.now) index.now }
     requires first { IsFirstIfAny said.now first }
     requires place { place < length said.now }
-    ensures { (f : AddedFault) → (result ≡ Some f) ↔ IsBeside added said.now place f }
+    ensures { (f : AddedFault) → (result ≡ Some f) ↔ IsAdditionFault added said.now place f }
 {
     let item = said[place]?;
     if may_not_come_in(&item) {

@@ -17,14 +17,14 @@ abbrev row_seen : After-see → OpKey × Operation
 row_seen c = (c.see.result.key.now, c.see.result.operation.now)
 
 -- it is in what stands beside it
-found_there : (c : After-see) → (o : OpKey) × (get c.see.result.beside.contents.now.operations o ≡ Some (row_seen c).1)
+found_there : (c : After-see) → (o : OpKey) × (get c.see.result.uncounted.contents.now.operations o ≡ Some (row_seen c).1)
 found_there c =
     let row = row_seen c in
-    (row.0, subst (λ (Q : Contents). get Q.operations row.0 ≡ Some row.1) (sym c.see.ensures.beside) (row_found c.args.shown.now.contents c.args.place row.0 row.1 c.see.ensures.row))
+    (row.0, subst (λ (Q : Contents). get Q.operations row.0 ≡ Some row.1) (sym c.see.ensures.uncounted) (row_found c.args.shown.now.contents c.args.place row.0 row.1 c.see.ensures.row))
 
 -- whether starts are known there is told of the plan that is shown
-known_there : (c : After-see) {b : _} → b ≡ takes (attribute_at c.see.result.beside.contents.now (row_seen c).1.workstation) → b ≡ takes (attribute_at c.args.shown.now.contents (row_seen c).1.workstation)
-known_there c {b} = subst (λ (Q : Contents). b ≡ takes (attribute_at Q (row_seen c).1.workstation)) c.see.ensures.beside
+known_there : (c : After-see) {b : _} → b ≡ takes (attribute_at c.see.result.uncounted.contents.now (row_seen c).1.workstation) → b ≡ takes (attribute_at c.args.shown.now.contents (row_seen c).1.workstation)
+known_there c {b} = subst (λ (Q : Contents). b ≡ takes (attribute_at Q (row_seen c).1.workstation)) c.see.ensures.uncounted
 
 pub starts_are_known-requires : goal.starts_are_known-requires
 starts_are_known-requires c = found_there (goal.at.starts_are_known-requires c).After-see
@@ -50,7 +50,7 @@ returns-clause-given c =
     let Q = c.args.shown.now.contents in
     let known = sym (known_there p c.starts_are_known.ensures) ∙ c.if-not-starts_are_known.false in
     let place = c.workstation_place_near-station.result in
-    let station = subst (λ (R : Contents). (value : Workstation) × (slice_get (entries R.workstations) place ≡ Some ((row_seen p).1.workstation, value))) c.see.ensures.beside c.workstation_place_near-station.ensures.at in
+    let station = subst (λ (R : Contents). (value : Workstation) × (slice_get (entries R.workstations) place ≡ Some ((row_seen p).1.workstation, value))) c.see.ensures.uncounted c.workstation_place_near-station.ensures.at in
     let within : place < length c.args.given.now = omega (arith, c.requires.stations, slice_get_within (entries Q.workstations) place _ station.1) in
     on_ok_weaker c.retake_needs.result
     (λ retaken P from. given_anew_there P Q c.args.place c.args.marking.now c.args.given.now c.args.holdings.now.held from (row_seen p) c.see.ensures.row known

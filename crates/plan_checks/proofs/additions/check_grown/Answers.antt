@@ -16,29 +16,29 @@ use Rattle.plan_checks.proofs.ComingApart.{comes_apart}
 use Rattle.plan_checks.proofs.Grown.{has_room, joins_operations, within_limits}
 use Rattle.plan_checks.proofs.Searching.{none_told, some_told}
 use Rattle.plan_checks.proofs.additions.check_grown.Goals as goal
-use Rattle.plan_checks.proofs.additions.check_grown.Goals.{After-beside-beside, In_ok-pairs}
+use Rattle.plan_checks.proofs.additions.check_grown.Goals.{After-uncounted-uncounted, In_ok-pairs}
 
 -- the plan has nothing yet of what is added
-apart : (c : After-beside-beside) → HasNothingOf c.beside-beside.result.contents.now (added_of c.args.parts.now)
+apart : (c : After-uncounted-uncounted) → HasNothingOf c.uncounted-uncounted.result.contents.now (added_of c.args.parts.now)
 apart c =
-    subst (λ (Q : Contents). HasNothingOf Q (added_of c.args.parts.now)) (sym c.beside-beside.ensures.contents)
-    (comes_apart c.args.plan.now c.beside-beside.ensures.sound.valid (added_of c.args.parts.now) c.requires.parts.extension c.requires.new)
+    subst (λ (Q : Contents). HasNothingOf Q (added_of c.args.parts.now)) (sym c.uncounted-uncounted.ensures.contents)
+    (comes_apart c.args.plan.now c.uncounted-uncounted.ensures.sound.valid (added_of c.args.parts.now) c.requires.parts.extension c.requires.new)
 
 pub grown_keys-requires-clause-apart : goal.grown_keys-requires-clause-apart
-grown_keys-requires-clause-apart c = apart (goal.at.grown_keys-requires-clause-apart c).After-beside-beside
+grown_keys-requires-clause-apart c = apart (goal.at.grown_keys-requires-clause-apart c).After-uncounted-uncounted
 
 pub grown_pairs-requires-clause-apart : goal.grown_pairs-requires-clause-apart
-grown_pairs-requires-clause-apart c = apart (goal.at.grown_pairs-requires-clause-apart c).After-beside-beside
+grown_pairs-requires-clause-apart c = apart (goal.at.grown_pairs-requires-clause-apart c).After-uncounted-uncounted
 
 module _ (c : In_ok-pairs) where
   abbrev grown : Contents
   grown = with_added c.args.plan.now (added_of c.args.parts.now)
 
   keyed : (seen : List OpKey) → seen ≡ c.in_ok-keys.keys.items → seen ≡ keys grown.operations
-  keyed seen same = same ∙ c.in_ok-keys.ensures ∙ ap (λ (Q : Contents). keys (with_added Q (added_of c.args.parts.now)).operations) c.beside-beside.ensures.contents
+  keyed seen same = same ∙ c.in_ok-keys.ensures ∙ ap (λ (Q : Contents). keys (with_added Q (added_of c.args.parts.now)).operations) c.uncounted-uncounted.ensures.contents
 
   paired : (seen : List (OpKey × OpKey)) → seen ≡ c.in_ok-pairs.pairs.items → set.from_list seen ≡ grown.pairs
-  paired seen same = ap (set.from_list {R = pair_cmp}) same ∙ c.in_ok-pairs.ensures.pairs ∙ ap (λ (Q : Contents). (with_added Q (added_of c.args.parts.now)).pairs) c.beside-beside.ensures.contents
+  paired seen same = ap (set.from_list {R = pair_cmp}) same ∙ c.in_ok-pairs.ensures.pairs ∙ ap (λ (Q : Contents). (with_added Q (added_of c.args.parts.now)).pairs) c.uncounted-uncounted.ensures.contents
 
   up : (seen : List (OpKey × OpKey)) → seen ≡ c.in_ok-pairs.pairs.items → IsStrictlySortedBy pair_cmp seen
   up seen same = subst (IsStrictlySortedBy pair_cmp) (sym same) c.in_ok-pairs.ensures.in_order
@@ -55,7 +55,7 @@ pub graph_of-requires-clause-ends : goal.graph_of-requires-clause-ends
 graph_of-requires-clause-ends c =
     let at = (goal.at.graph_of-requires-clause-ends c).In_ok-pairs in
     ends_known (grown at) c.deref.result.now c.deref-2.result.now (keyed at c.deref.result.now c.deref.ensures.value) (paired at c.deref-2.result.now c.deref-2.ensures.value)
-    (joins_operations c.args.plan.now c.beside-beside.ensures.sound.valid (added_of c.args.parts.now) c.requires.known)
+    (joins_operations c.args.plan.now c.uncounted-uncounted.ensures.sound.valid (added_of c.args.parts.now) c.requires.known)
 
 pub returns-then-is_none-clause-refused : goal.returns-then-is_none-clause-refused
 returns-then-is_none-clause-refused c =
@@ -75,7 +75,7 @@ returns-then-not-is_within_limits-clause-refused c =
     let ps = c.deref-else-is_none-2.result.now in
     inr (full_by_growth P (added_of c.args.parts.now) (subst (λ (z : Pairs). IsAcyclic z) (paired at c.deref-2.result.now c.deref-2.ensures.value) acyclic)
     (λ limits.
-    let room = has_room P c.beside-beside.ensures.sound.valid c.args.parts.now c.requires.parts c.requires.new ks ps (keyed at ks c.deref-else-is_none.ensures.value) (paired at ps c.deref-else-is_none-2.ensures.value) (up at ps c.deref-else-is_none-2.ensures.value) limits.0 in
+    let room = has_room P c.uncounted-uncounted.ensures.sound.valid c.args.parts.now c.requires.parts c.requires.new ks ps (keyed at ks c.deref-else-is_none.ensures.value) (paired at ps c.deref-else-is_none-2.ensures.value) (up at ps c.deref-else-is_none-2.ensures.value) limits.0 in
     true≢false (sym (c.is_within_limits.ensures.1 (room, limits.1)) ∙ no)))
 
 pub returns-clause-ok : goal.returns-clause-ok
@@ -89,4 +89,4 @@ returns-clause-ok c =
     let ps = c.deref-else-is_none-2.result.now in
     let room = c.is_within_limits.ensures.0 yes in
     none_by_growth P (added_of c.args.parts.now) (subst (λ (z : Pairs). IsAcyclic z) (paired at c.deref-2.result.now c.deref-2.ensures.value) acyclic)
-    (within_limits P c.beside-beside.ensures.sound.valid c.args.parts.now c.requires.parts c.requires.new ks ps (keyed at ks c.deref-else-is_none.ensures.value) (paired at ps c.deref-else-is_none-2.ensures.value) (up at ps c.deref-else-is_none-2.ensures.value) room.0, room.1)
+    (within_limits P c.uncounted-uncounted.ensures.sound.valid c.args.parts.now c.requires.parts c.requires.new ks ps (keyed at ks c.deref-else-is_none.ensures.value) (paired at ps c.deref-else-is_none-2.ensures.value) (up at ps c.deref-else-is_none-2.ensures.value) room.0, room.1)

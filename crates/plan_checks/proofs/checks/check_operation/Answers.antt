@@ -6,7 +6,7 @@ use Rattle.plan_basics.specs.declared.Refusal.TheVariants as refusal
 use Rattle.plan_basics.specs.declared.keys.OpKey.{OpKey}
 use Rattle.plan_model.specs.Contents.{Contents, Operation}
 use Rattle.plan_records.specs.Acceptance.{MayBeDone}
-use Rattle.derived_figures.specs.Frames.{IsFrameOf}
+use Rattle.derived_figures.specs.DerivedRefs.{AreDerivedOf}
 use Rattle.derived_figures.specs.Reports.{IsReported}
 use Rattle.plan_checks.proofs.ByPair.{HasRow}
 use Rattle.plan_checks.proofs.Searching.{found_in}
@@ -16,8 +16,8 @@ use Rattle.plan_checks.proofs.checks.check_operation.Goals.{In_ok-place}
 -- the row at the index is that of the key
 found : (c : In_ok-place) → HasRow c.args.shown.now.contents c.in_ok-place.place c.args.key.now
 found c =
-    subst (λ (Q : Contents). HasRow Q c.in_ok-place.place c.args.key.now) c.beside.ensures.contents
-    (found_in c.operation_place.result (λ i. HasRow c.beside.result.contents.now i c.args.key.now) c.in_ok-place.place c.in_ok-place.ensures.ok_part c.operation_place.ensures.found)
+    subst (λ (Q : Contents). HasRow Q c.in_ok-place.place c.args.key.now) c.uncounted.ensures.contents
+    (found_in c.operation_place.result (λ i. HasRow c.uncounted.result.contents.now i c.args.key.now) c.in_ok-place.place c.in_ok-place.ensures.ok_part c.operation_place.ensures.found)
 
 pub see-seen-requires : goal.see-seen-requires
 see-seen-requires c =
@@ -25,12 +25,12 @@ see-seen-requires c =
     slice_get_within (entries c.args.shown.now.contents.operations) c.in_ok-place.place (c.args.key.now, row.0) row.1
 
 pub of-outline-requires : goal.of-outline-requires
-of-outline-requires c = subst (λ (Q : Contents). IsFrameOf Q c.args.frame) (sym c.see-seen.ensures.beside) c.requires.frame
+of-outline-requires c = subst (λ (Q : Contents). AreDerivedOf Q c.args.derived) (sym c.see-seen.ensures.uncounted) c.requires.derived
 
 pub reported-reported-requires : goal.reported-reported-requires
 reported-reported-requires c =
     let row : OpKey × Operation = (c.see-seen.result.key.now, c.see-seen.result.operation.now) in
-    subst (λ (Q : Contents). slice_get (entries Q.operations) c.in_ok-place.place ≡ Some row) (sym (c.of-outline.ensures ∙ c.see-seen.ensures.beside)) c.see-seen.ensures.row
+    subst (λ (Q : Contents). slice_get (entries Q.operations) c.in_ok-place.place ≡ Some row) (sym (c.of-outline.ensures ∙ c.see-seen.ensures.uncounted)) c.see-seen.ensures.row
 
 pub check_reported-requires-clause-reported : goal.check_reported-requires-clause-reported
 check_reported-requires-clause-reported c o about =
@@ -41,8 +41,8 @@ check_reported-requires-clause-reported c o about =
 
 pub returns-clause-ok : goal.returns-clause-ok
 returns-clause-ok c =
-    subst (λ (Q : Contents). OnOk c.check_reported.result (NoneRefuses (MayBeDone Q c.args.at c.args.what.now))) (c.of-outline.ensures ∙ c.see-seen.ensures.beside) c.check_reported.ensures.ok
+    subst (λ (Q : Contents). OnOk c.check_reported.result (NoneRefuses (MayBeDone Q c.args.at c.args.what.now))) (c.of-outline.ensures ∙ c.see-seen.ensures.uncounted) c.check_reported.ensures.ok
 
 pub returns-clause-refused : goal.returns-clause-refused
 returns-clause-refused c =
-    subst (λ (Q : Contents). IfErr c.check_reported.result (λ r. (r ≡ refusal.Memory) ⊎ IsLeastRefusal (MayBeDone Q c.args.at c.args.what.now) r)) (c.of-outline.ensures ∙ c.see-seen.ensures.beside) c.check_reported.ensures.refused
+    subst (λ (Q : Contents). IfErr c.check_reported.result (λ r. (r ≡ refusal.Memory) ⊎ IsLeastRefusal (MayBeDone Q c.args.at c.args.what.now) r)) (c.of-outline.ensures ∙ c.see-seen.ensures.uncounted) c.check_reported.ensures.refused

@@ -45,8 +45,8 @@ returns-in-StartAndCompletion-2 c =
     let may : MayStart P o op m refusal.WrongStatus = startable P o c.args.reported.now c.requires m c.in-StartAndCompletion.is (sym c.is_startable.ensures ∙ yes) in
     let held = c.holdings.result.now.held in
     let taken = c.given_out_at-taken.result in
-    let has : HasTaken P c.beside-beside.result.contents.now op taken held =
-    subst (λ (Q : Contents). HasTaken P Q op taken held) (sym c.beside-beside.ensures.contents) (has_taken P op taken held c.given_out_at-taken.ensures c.holdings.ensures) in
+    let has : HasTaken P c.uncounted-uncounted.result.contents.now op taken held =
+    subst (λ (Q : Contents). HasTaken P Q op taken held) (sym c.uncounted-uncounted.ensures.contents) (has_taken P op taken held c.given_out_at-taken.ensures c.holdings.ensures) in
     record {
       ok = if_ok c.check_start.result c.check_start.ensures.ok (λ met.
           subst (λ z. NoneRefuses (MayBeStarted P m o op (Some z))) (sym c.in-StartAndCompletion.is)

@@ -9,5 +9,5 @@ pub returns-in-Some-clause-ok : goal.returns-in-Some-clause-ok
 returns-in-Some-clause-ok c =
     let P = c.args.outline.now in
     let name = c.args.name.now in
-    let is = ap (λ (Q : Contents). get Q.resources name) (sym c.beside.ensures.contents) ∙ sym c.resource.ensures ∙ c.in-Some.is in
+    let is = ap (λ (Q : Contents). get Q.resources name) (sym c.uncounted.ensures.contents) ∙ sym c.resource.ensures ∙ c.in-Some.is in
     available P name (some_is (get P.resources name) _ is)

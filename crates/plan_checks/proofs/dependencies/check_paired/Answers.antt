@@ -19,12 +19,12 @@ found c x y told_x told_y =
     let s = c.args.successor.now in
     let a = found_in c.place_of.result (λ i. HasRow P i p) c.in_ok-before.before c.in_ok-before.ensures.ok_part c.place_of.ensures.found in
     let b = found_in c.place_of-2.result (λ i. HasRow P i s) c.in_ok-after.after c.in_ok-after.ensures.ok_part c.place_of-2.ensures.found in
-    record { valid = c.beside.ensures.sound.valid; graph = c.graph-graph.ensures; before = a; after = b; first = told_x p a.0 a.1; second = told_y s b.0 b.1 }
+    record { valid = c.uncounted.ensures.sound.valid; graph = c.graph-graph.ensures; before = a; after = b; first = told_x p a.0 a.1; second = told_y s b.0 b.1 }
 
 pub check_edge-requires-clause-nodes : goal.check_edge-requires-clause-nodes
 check_edge-requires-clause-nodes c =
     let P = c.args.outline.now in
-    let nodes = as_many P c.beside.ensures.sound.valid c.graph-graph.result.now c.graph-graph.ensures in
+    let nodes = as_many P c.uncounted.ensures.sound.valid c.graph-graph.result.now c.graph-graph.ensures in
     let size = c.statuses.ensures.size in
     search rules
 
@@ -50,16 +50,16 @@ pub returns-then-pairs-lt-MOST_PAIRS-clause-ok : goal.returns-then-pairs-lt-MOST
 returns-then-pairs-lt-MOST_PAIRS-clause-ok c =
     let at = found (goal.at.returns-then-pairs-lt-MOST_PAIRS-clause-ok c).In_ok-after c.status_at.result c.status_at-2.result c.status_at.ensures c.status_at-2.ensures in
     let room : length c.pairs-pairs.result.now < MOST_PAIRS = search rules in
-    let Q = c.beside.result.contents.now in
+    let Q = c.uncounted.result.contents.now in
     let counted : set.len Q.pairs ≡ length c.pairs-pairs.result.now = pairs_counted Q.pairs c.pairs-pairs.result.now c.pairs-pairs.ensures.pairs c.pairs-pairs.ensures.in_order in
     may_be_paired at c.in_ok-check_ends.ensures.ok.0 c.in_ok-check_ends.ensures.ok.1 c.in_ok-check_edge.ensures.ok
-    (subst (λ (R : Contents). set.len R.pairs < MOST_PAIRS) c.beside.ensures.contents (omega (arith, counted, room)))
+    (subst (λ (R : Contents). set.len R.pairs < MOST_PAIRS) c.uncounted.ensures.contents (omega (arith, counted, room)))
 
 pub returns-else-pairs-lt-MOST_PAIRS-clause-refused : goal.returns-else-pairs-lt-MOST_PAIRS-clause-refused
 returns-else-pairs-lt-MOST_PAIRS-clause-refused c =
     let at = found (goal.at.returns-else-pairs-lt-MOST_PAIRS-clause-refused c).In_ok-after c.status_at.result c.status_at-2.result c.status_at.ensures c.status_at-2.ensures in
     let full : length c.pairs-pairs.result.now < MOST_PAIRS → ⊥ = search rules in
-    let Q = c.beside.result.contents.now in
+    let Q = c.uncounted.result.contents.now in
     let counted : set.len Q.pairs ≡ length c.pairs-pairs.result.now = pairs_counted Q.pairs c.pairs-pairs.result.now c.pairs-pairs.ensures.pairs c.pairs-pairs.ensures.in_order in
     barred_by_room at c.in_ok-check_ends.ensures.ok.0 c.in_ok-check_ends.ensures.ok.1 c.in_ok-check_edge.ensures.ok
-    (subst (λ (R : Contents). set.len R.pairs < MOST_PAIRS → ⊥) c.beside.ensures.contents (λ room. full (omega (arith, counted, room))))
+    (subst (λ (R : Contents). set.len R.pairs < MOST_PAIRS → ⊥) c.uncounted.ensures.contents (λ room. full (omega (arith, counted, room))))

@@ -19,18 +19,18 @@ pub merge-requires-clause-exact : goal.merge-requires-clause-exact
 merge-requires-clause-exact c = operation_cmp-IsAntisymmetric
 
 pub merge-requires-clause-old : goal.merge-requires-clause-old
-merge-requires-clause-old c = subst (IsStrictlySortedBy operation_cmp) (sym c.in_ok-all.ensures) (entries_in_order operation_cmp c.args.beside.now.contents.now.operations)
+merge-requires-clause-old c = subst (IsStrictlySortedBy operation_cmp) (sym c.in_ok-all.ensures) (entries_in_order operation_cmp c.args.uncounted.now.contents.now.operations)
 
 pub merge-requires-clause-apart : goal.merge-requires-clause-apart
 merge-requires-clause-apart c =
-    let P = c.args.beside.now.contents.now in
+    let P = c.args.uncounted.now.contents.now in
     let new = listed (goal.at.merge-requires-clause-apart c).In_ok-new c.deref-2.result.now c.deref-2.ensures.value in
     subst (λ (xs : List OpKey). ShareNoMember {R = operation_cmp} (set.from_list xs) (set.from_list c.deref-2.result.now)) (sym c.in_ok-all.ensures)
     (subst (λ (xs : List OpKey). ShareNoMember {R = operation_cmp} (set.from_list (keys P.operations)) (set.from_list xs)) (sym new) (keys_apart P c.args.parts.now c.requires.parts c.requires.apart))
 
 pub returns : goal.returns
 returns c =
-    let P = c.args.beside.now.contents.now in
+    let P = c.args.uncounted.now.contents.now in
     let old : c.in_ok-all.all.items ≡ keys P.operations = c.in_ok-all.ensures in
     let new = listed (goal.at.returns c).In_ok-new c.deref-2.result.now c.deref-2.ensures.value in
     grown_keys P c.args.parts.now c.requires.parts c.merge.new.items.items c.in_ok-merge.ensures.in_order

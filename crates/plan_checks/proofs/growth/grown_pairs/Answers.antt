@@ -13,4 +13,4 @@ pub merge-requires-clause-apart : goal.merge-requires-clause-apart
 merge-requires-clause-apart c =
     let same = ap (set.from_list {R = pair_cmp}) c.in_ok-all.ensures.items ∙ c.pairs.ensures.pairs in
     subst (λ (z : Pairs). ShareNoMember z (set.from_list c.deref.result.now)) (sym same)
-    (subst (λ (items : List (OpKey × OpKey)). ShareNoMember {R = pair_cmp} c.args.beside.now.contents.now.pairs (set.from_list items)) (sym c.deref.ensures.value) c.requires.apart.pairs)
+    (subst (λ (items : List (OpKey × OpKey)). ShareNoMember {R = pair_cmp} c.args.uncounted.now.contents.now.pairs (set.from_list items)) (sym c.deref.ensures.value) c.requires.apart.pairs)

@@ -6,14 +6,14 @@ use Rattle.plan_checks.proofs.growth.has_room.Goals as goal
 pub overflow_sub-room : goal.overflow_sub-room
 overflow_sub-room c =
     let rows = c.occurrences-occurrences.result.now in
-    let count = counted c.args.beside.now.contents.now.occurrences rows c.occurrences-occurrences.ensures.rows in
+    let count = counted c.args.uncounted.now.contents.now.occurrences rows c.occurrences-occurrences.ensures.rows in
     let most = c.occurrences-occurrences.ensures.sound.valid.limits.occurrences in
     omega (arith, most, count)
 
 pub returns-then-keys-le-MOST_OPERATIONS : goal.returns-then-keys-le-MOST_OPERATIONS
 returns-then-keys-le-MOST_OPERATIONS c =
     let rows = c.occurrences-occurrences.result.now in
-    let count = counted c.args.beside.now.contents.now.occurrences rows c.occurrences-occurrences.ensures.rows in
+    let count = counted c.args.uncounted.now.contents.now.occurrences rows c.occurrences-occurrences.ensures.rows in
     let most = c.occurrences-occurrences.ensures.sound.valid.limits.occurrences in
     let few : c.args.more ≤ MOST_OCCURRENCES - length rows = search rules in
     let operations : length c.args.keys.now ≤ MOST_OPERATIONS = search rules in (
@@ -28,7 +28,7 @@ returns-then-keys-le-MOST_OPERATIONS c =
 pub returns-else-keys-le-MOST_OPERATIONS : goal.returns-else-keys-le-MOST_OPERATIONS
 returns-else-keys-le-MOST_OPERATIONS c =
     let rows = c.occurrences-occurrences.result.now in
-    let count = counted c.args.beside.now.contents.now.occurrences rows c.occurrences-occurrences.ensures.rows in (
+    let count = counted c.args.uncounted.now.contents.now.occurrences rows c.occurrences-occurrences.ensures.rows in (
       λ yes. search rules,
       λ room.
           let few : c.args.more ≤ MOST_OCCURRENCES - length rows = omega (arith, room.occurrences, count) in

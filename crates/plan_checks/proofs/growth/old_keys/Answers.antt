@@ -5,4 +5,4 @@ use Rattle.plan_checks.proofs.growth.old_keys.Goals as goal
 pub loop-place-preserved : goal.loop-place-preserved
 loop-place-preserved c =
     rw c.in_ok-push.ensures.items
-    (keys_on (keys c.args.beside.now.contents.now.operations) c.loop-place.keys.items c.loop-place.place c.key_at.result c.key_at.ensures c.loop-place.invariant)
+    (keys_on (keys c.args.uncounted.now.contents.now.operations) c.loop-place.keys.items c.loop-place.place c.key_at.result c.key_at.ensures c.loop-place.invariant)

@@ -5,5 +5,5 @@ use Rattle.plan_checks.proofs.known.has_resource.Goals as goal
 
 pub returns : goal.returns
 returns c =
-    let is = c.is_some.ensures ∙ ap is_some c.resource.ensures ∙ ap (λ (R : Contents). contains_key R.resources c.args.name.now) c.beside.ensures.contents in
+    let is = c.is_some.ensures ∙ ap is_some c.resource.ensures ∙ ap (λ (R : Contents). contains_key R.resources c.args.name.now) c.uncounted.ensures.contents in
     (λ yes. sym is ∙ yes, λ has. is ∙ has)

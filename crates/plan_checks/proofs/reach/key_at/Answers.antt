@@ -5,4 +5,4 @@ use Rattle.plan_checks.proofs.reach.key_at.Goals as goal
 pub returns : goal.returns
 returns c =
     let at = c.operation_key.ensures.key in
-    key_of_row (entries c.args.beside.now.contents.now.operations) c.args.place c.operation_key.result.now at.0 at.1
+    key_of_row (entries c.args.uncounted.now.contents.now.operations) c.args.place c.operation_key.result.now at.0 at.1

@@ -5,4 +5,4 @@ use Rattle.plan_checks.proofs.reach.keys_at.Goals as goal
 pub loop-place-preserved : goal.loop-place-preserved
 loop-place-preserved c =
     rw c.in_ok-push.ensures.items
-    (keys_more (keys c.args.beside.now.contents.now.operations) c.args.places.now c.loop-place.keys.items c.loop-place.place-index _ c.key_at.result c.loop-place-test.true c.key_at.ensures c.loop-place.invariant)
+    (keys_more (keys c.args.uncounted.now.contents.now.operations) c.args.places.now c.loop-place.keys.items c.loop-place.place-index _ c.key_at.result c.loop-place-test.true c.key_at.ensures c.loop-place.invariant)

@@ -12,17 +12,17 @@ use Rattle.plan_checks.specs.Reach.{is_live_status}
 
 pub known_operation_place-place-requires : goal.known_operation_place-place-requires
 known_operation_place-place-requires c =
-    subst (λ (P : Contents). contains_key P.operations c.args.key.now ≡ true) (sym c.beside-beside.ensures.contents) (some_is (get c.args.outline.now.operations c.args.key.now) c.requires.0 c.requires.1)
+    subst (λ (P : Contents). contains_key P.operations c.args.key.now ≡ true) (sym c.uncounted-uncounted.ensures.contents) (some_is (get c.args.outline.now.operations c.args.key.now) c.requires.0 c.requires.1)
 
 pub keys_at-requires : goal.keys_at-requires
 keys_at-requires c =
     let P = c.args.outline.now in
-    let same = c.beside-beside.ensures.contents in
+    let same = c.uncounted-uncounted.ensures.contents in
     let place = c.known_operation_place-place.result in
     let places = c.in_ok-places.places.items in
     let lt : place < length (entries P.operations) = subst (λ (Q : Contents). place < length (entries Q.operations)) same c.known_operation_place-place.ensures.within in
-    let within = reached_within P c.beside-beside.ensures.sound.valid c.graph.result.now c.graph.ensures (IsSet c.deref.result.now) place places lt c.in_ok-places.ensures.reached in
-    subst (λ (ps : List ℕ). All (λ p. p < length (entries c.beside-beside.result.contents.now.operations)) ps) (sym c.deref-2.ensures.value)
+    let within = reached_within P c.uncounted-uncounted.ensures.sound.valid c.graph.result.now c.graph.ensures (IsSet c.deref.result.now) place places lt c.in_ok-places.ensures.reached in
+    subst (λ (ps : List ℕ). All (λ p. p < length (entries c.uncounted-uncounted.result.contents.now.operations)) ps) (sym c.deref-2.ensures.value)
     (subst (λ (Q : Contents). All (λ p. p < length (entries Q.operations)) places) (sym same) within)
 
 pub returns-clause-reached : goal.returns-clause-reached
@@ -35,7 +35,7 @@ returns-clause-reached c o =
     let statuses = c.statuses.result.now in
     let key = c.args.key.now in
     let found = c.in_ok-keys_at.field-0.items in
-    let same = c.beside-beside.ensures.contents in
+    let same = c.uncounted-uncounted.ensures.contents in
     let row = subst (λ (Q : Contents). (op : Operation) × (slice_get (entries Q.operations) place ≡ Some (key, op))) same c.known_operation_place-place.ensures.at in
     let flags : c.deref.result.now ≡ map is_live_status statuses = c.deref.ensures.value ∙ c.in_ok-live.ensures in
     let exactly : AreExactly (ReachesBy (HasEdge g) (IsSet (map is_live_status statuses)) place) places =
@@ -43,4 +43,4 @@ returns-clause-reached c o =
     let stand : StandAt (keys P.operations) places found =
     subst (λ (ps : List ℕ). StandAt (keys P.operations) ps found) c.deref-2.ensures.value
     (subst (λ (Q : Contents). StandAt (keys Q.operations) c.deref-2.result.now found) same c.in_ok-keys_at.ensures) in
-    reached_among P c.beside-beside.ensures.sound.valid g c.graph.ensures statuses c.statuses.ensures place key places found c.requires (key_of_row rows place key row.0 row.1) exactly stand o
+    reached_among P c.uncounted-uncounted.ensures.sound.valid g c.graph.ensures statuses c.statuses.ensures place key places found c.requires (key_of_row rows place key row.0 row.1) exactly stand o

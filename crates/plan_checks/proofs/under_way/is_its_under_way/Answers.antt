@@ -8,13 +8,13 @@ use Rattle.plan_checks.proofs.under_way.is_its_under_way.Goals as goal
 use Rattle.plan_checks.proofs.under_way.is_its_under_way.Goals.{After-operation_key}
 
 pub operation_key-requires : goal.operation_key-requires
-operation_key-requires c = subst (λ (Q : Contents). c.args.place < length (entries Q.operations)) (sym c.beside.ensures.contents) c.requires
+operation_key-requires c = subst (λ (Q : Contents). c.args.place < length (entries Q.operations)) (sym c.uncounted.ensures.contents) c.requires
 
 -- the key at the index is that of the row
 same_key : (c : After-operation_key) (o : OpKey) (op : Operation) → slice_get (entries c.args.outline.now.operations) c.args.place ≡ Some (o, op) → c.operation_key.result.now ≡ o
 same_key c o op at =
     let key = c.operation_key.result.now in
-    let there = subst (λ (Q : Contents). (x : Operation) × (slice_get (entries Q.operations) c.args.place ≡ Some (key, x))) c.beside.ensures.contents c.operation_key.ensures.key in
+    let there = subst (λ (Q : Contents). (x : Operation) × (slice_get (entries Q.operations) c.args.place ≡ Some (key, x))) c.uncounted.ensures.contents c.operation_key.ensures.key in
     ap (λ (row : OpKey × Operation). row.0) (same_Some (key, there.0) (o, op) (sym there.1 ∙ at))
 
 pub returns-then-eq : goal.returns-then-eq

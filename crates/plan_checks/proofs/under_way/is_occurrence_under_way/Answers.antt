@@ -13,13 +13,13 @@ loop-place-init c = λ k row lt at. absurd (omega (arith, lt))
 
 pub is_its_under_way-requires : goal.is_its_under_way-requires
 is_its_under_way-requires c =
-    let count = c.operation_count-place-end.ensures.count ∙ ap (λ (Q : Contents). length (entries Q.operations)) c.beside.ensures.contents in
+    let count = c.operation_count-place-end.ensures.count ∙ ap (λ (Q : Contents). length (entries Q.operations)) c.uncounted.ensures.contents in
     omega (arith, c.loop-place-test.true, count)
 
 pub returns-then-is_its_under_way : goal.returns-then-is_its_under_way
 returns-then-is_its_under_way c =
     let yes : c.is_its_under_way.result ≡ true = search rules in
-    let count = c.operation_count-place-end.ensures.count ∙ ap (λ (Q : Contents). length (entries Q.operations)) c.beside.ensures.contents in
+    let count = c.operation_count-place-end.ensures.count ∙ ap (λ (Q : Contents). length (entries Q.operations)) c.uncounted.ensures.contents in
     let within : c.loop-place.place < length (entries c.args.outline.now.operations) = omega (arith, c.loop-place-test.true, count) in
     let row = row_at (entries c.args.outline.now.operations) c.loop-place.place within in
     (λ _. (row.0.0, (c.is_its_under_way.ensures row.0.0 row.0.1 row.1).0 yes), λ _. refl)
@@ -36,7 +36,7 @@ returns c = (
   λ yes. absurd (true≢false (sym yes)),
   λ h.
       let P = c.args.outline.now in
-      let count = c.operation_count-place-end.ensures.count ∙ ap (λ (Q : Contents). length (entries Q.operations)) c.beside.ensures.contents in
+      let count = c.operation_count-place-end.ensures.count ∙ ap (λ (Q : Contents). length (entries Q.operations)) c.uncounted.ensures.contents in
       let op = under_way_in_plan P h.0 h.1.1 in
       let place = row_of P h.0 op.0 op.1 in
       let within = slice_get_within (entries P.operations) place.0 (h.0, op.0) place.1 in

@@ -1,25 +1,25 @@
 use Rattle.std.proofs.Common.{◌≡◌, ◌∙◌, ap, sym, subst, IfOk, Some}
 use Rattle.plan_core.proofs.counted.prepare_loaded.Goals as goal
 use Rattle.plan_core.proofs.counted.prepare_loaded.Goals.{In-Ok}
-use Rattle.request_outcomes.specs.Led.{AreLooksLed, IsLedOf}
-use Rattle.request_outcomes.specs.declared.led.Led.{Led}
+use Rattle.request_outcomes.specs.RequestOutcomes.{AreRequestOutcomeLooks, IsRequestOutcomeOf}
+use Rattle.request_outcomes.specs.declared.request_outcome.RequestOutcome.{RequestOutcome}
 use Rattle.plan_model.specs.Contents.{Contents}
 use Rattle.plan_model.specs.Plan.{plan_held}
 use Rattle.request_outcomes.specs.plan_checks.proofs.Searching.{if_err}
-use Rattle.plan_opening.specs.counted_records.specs.States.{ShownState}
+use Rattle.plan_opening.specs.counted_records.specs.States.{CountedState}
 
 -- what is shown is what the plan holds
 is_shown : (c : In-Ok) → c.of-shown.result.contents ≡ c.args.loaded
-is_shown c = ap (λ (s : ShownState). s.contents) c.of-shown.ensures ∙ c.seeking.ensures ∙ c.into_parts-contents.ensures.contents
+is_shown c = ap (λ (s : CountedState). s.contents) c.of-shown.ensures ∙ c.seeking.ensures ∙ c.into_parts-contents.ensures.contents
 
 -- what it leads to in what is shown, it leads to in the plan
-led : (c : In-Ok) → IsLedOf (plan_held c.args.clock (Some c.args.loaded)) c.args.request.now c.args.at c.in-Ok.led
-led c =
+outcome : (c : In-Ok) → IsRequestOutcomeOf (plan_held c.args.clock (Some c.args.loaded)) c.args.request.now c.args.at c.in-Ok.outcome
+outcome c =
     let H = c.of-shown.result.contents in
-    subst (λ (P : Contents). IsLedOf (plan_held c.args.clock (Some P)) c.args.request.now c.args.at c.in-Ok.led) (is_shown c) (subst (λ r. IfOk r (IsLedOf (plan_held c.args.clock (Some H)) c.args.request.now c.args.at)) c.in-Ok.is c.outcome_of-shown.ensures.led)
+    subst (λ (P : Contents). IsRequestOutcomeOf (plan_held c.args.clock (Some P)) c.args.request.now c.args.at c.in-Ok.outcome) (is_shown c) (subst (λ r. IfOk r (IsRequestOutcomeOf (plan_held c.args.clock (Some H)) c.args.request.now c.args.at)) c.in-Ok.is c.outcome_of-shown.ensures.outcome)
 
 pub prepared_by-requires : goal.prepared_by-requires
-prepared_by-requires c = (plan_held c.args.clock (Some c.args.loaded), c.args.request.now, led ((goal.at.prepared_by-requires c).In-Ok))
+prepared_by-requires c = (plan_held c.args.clock (Some c.args.loaded), c.args.request.now, outcome ((goal.at.prepared_by-requires c).In-Ok))
 
 pub returns-in-Ok-clause-prepared : goal.returns-in-Ok-clause-prepared
 returns-in-Ok-clause-prepared c =
@@ -27,11 +27,11 @@ returns-in-Ok-clause-prepared c =
     let H = c.of-shown.result.contents in
     let q = c.args.request.now in
     let looks = c.outcome_of-shown.result.0.looks in
-    let looked = subst (λ r. IfOk r (λ (l : Led). AreLooksLed H q.what l looks)) c.in-Ok.is c.outcome_of-shown.ensures.looked in
-    let counted = subst (AreLooksLed c.args.loaded q.what c.in-Ok.led) (sym c.into_contents-contents.ensures.looks) (subst (λ (P : Contents). AreLooksLed P q.what c.in-Ok.led looks) (is_shown at) looked) in
-    c.prepared_by.ensures.prepared (plan_held c.args.clock (Some c.args.loaded)) q (led at) counted
+    let looked = subst (λ r. IfOk r (λ (l : RequestOutcome). AreRequestOutcomeLooks H q.what l looks)) c.in-Ok.is c.outcome_of-shown.ensures.looked in
+    let counted = subst (AreRequestOutcomeLooks c.args.loaded q.what c.in-Ok.outcome) (sym c.into_contents-contents.ensures.looks) (subst (λ (P : Contents). AreRequestOutcomeLooks P q.what c.in-Ok.outcome looks) (is_shown at) looked) in
+    c.prepared_by.ensures.prepared (plan_held c.args.clock (Some c.args.loaded)) q (outcome at) counted
 
 pub returns-in-Ok-clause-refused : goal.returns-in-Ok-clause-refused
 returns-in-Ok-clause-refused c =
     let at = (goal.at.returns-in-Ok-clause-refused c).In-Ok in
-    if_err c.prepared_by.result c.prepared_by.ensures.refused (λ r told. told (plan_held c.args.clock (Some c.args.loaded)) c.args.request.now (led at))
+    if_err c.prepared_by.result c.prepared_by.ensures.refused (λ r told. told (plan_held c.args.clock (Some c.args.loaded)) c.args.request.now (outcome at))

@@ -16,8 +16,8 @@ is_written c =
     ∙ ap (λ ks. named os (written ks c.args.writing.revision c.into_parts-contents.result.contents)) c.deref.ensures.value
     ∙ ap (λ (P : Contents). named os (rewritten c.args.writing P)) c.into_parts-contents.ensures.contents
 
-pub shifted-figures-requires : goal.shifted-figures-requires
-shifted-figures-requires c = (c.args.plan, named c.args.named.now (rewritten c.args.writing c.args.plan), c.into_parts-contents.ensures.figures, c.requires.shift)
+pub changed_figures-figures-requires : goal.changed_figures-figures-requires
+changed_figures-figures-requires c = (c.args.plan, named c.args.named.now (rewritten c.args.writing c.args.plan), c.into_parts-contents.ensures.figures, c.requires.figure_change)
 
 pub of-requires-clause-graph : goal.of-requires-clause-graph
 of-requires-clause-graph c =
@@ -27,5 +27,5 @@ of-requires-clause-graph c =
 pub of-requires-clause-figures : goal.of-requires-clause-figures
 of-requires-clause-figures c =
     let R = named c.args.named.now (rewritten c.args.writing c.args.plan) in
-    subst (λ (R : Contents). AreFigures R c.shifted-figures.result) (sym (is_written (goal.at.of-requires-clause-figures c).After-stepped-contents))
-    (c.shifted-figures.ensures c.args.plan R c.into_parts-contents.ensures.figures c.requires.shift)
+    subst (λ (R : Contents). AreFigures R c.changed_figures-figures.result) (sym (is_written (goal.at.of-requires-clause-figures c).After-stepped-contents))
+    (c.changed_figures-figures.ensures c.args.plan R c.into_parts-contents.ensures.figures c.requires.figure_change)

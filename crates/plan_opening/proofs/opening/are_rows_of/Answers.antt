@@ -5,7 +5,7 @@ use Rattle.plan_opening.proofs.opening.are_rows_of.Goals as goal
 use Rattle.plan_records.specs.Rows.{AreRows}
 
 pub rows_of-requires : goal.rows_of-requires
-rows_of-requires c = c.columns_of.ensures c.args.shown.now.contents c.beside.ensures.sound c.requires.frame
+rows_of-requires c = c.columns_of.ensures c.args.shown.now.contents c.uncounted.ensures.sound c.requires.derived
 
 pub returns-clause-told : goal.returns-clause-told
 returns-clause-told c =

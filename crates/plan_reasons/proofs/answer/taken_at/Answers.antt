@@ -4,11 +4,11 @@ use Rattle.std.specs.FinMap.{entries}
 use Rattle.plan_core.specs.start_choice.specs.Choices.{AreGivenOut}
 use Rattle.plan_model.specs.Contents.{Contents}
 use Rattle.plan_reasons.proofs.answer.taken_at.Goals as goal
-use Rattle.plan_core.specs.plan_status.specs.Briefs.{AreBriefs}
+use Rattle.plan_core.specs.plan_status.specs.Summaries.{AreSummaries}
 
 pub given_out_of-requires : goal.given_out_of-requires
 given_out_of-requires c =
-    subst (λ (Q : Contents). AreBriefs Q c.deref.result.now) (c.valid.ensures.contents ∙ sym c.of.ensures.contents) (subst (AreBriefs c.valid.result.now) (sym c.deref.ensures.value) c.in_ok-briefs.ensures)
+    subst (λ (Q : Contents). AreSummaries Q c.deref.result.now) (c.valid.ensures.contents ∙ sym c.of.ensures.contents) (subst (AreSummaries c.valid.result.now) (sym c.deref.ensures.value) c.in_ok-summaries.ensures)
 
 pub returns : goal.returns
 returns c =

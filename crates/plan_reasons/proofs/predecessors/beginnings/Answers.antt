@@ -29,5 +29,5 @@ returns-clause-roots c o at =
     let found = c.in_ok-unsatisfied_at_each.field-0.items in
     let flags = c.deref.ensures.value ∙ c.in_ok-flags.ensures in
     let are_at = subst (λ ps. AreAt P ps found) c.deref-2.ensures.value c.in_ok-unsatisfied_at_each.ensures in
-    all_roots P c.look_at.ensures.valid g c.graph.ensures c.statuses.result.now c.statuses.ensures c.args.place o (key_of_row (entries P.operations) c.args.place o at.0 at.1) (c.requires.waits o at)
+    all_roots P c.read_for_proof.ensures.valid g c.graph.ensures c.statuses.result.now c.statuses.ensures c.args.place o (key_of_row (entries P.operations) c.args.place o at.0 at.1) (c.requires.waits o at)
     places c.in_ok-places.ensures.in_order found are_at (λ n. subst (λ fs. Contains places n ↔ IsSource g fs c.args.place n) flags (c.in_ok-places.ensures.nodes n))

@@ -8,4 +8,4 @@ beginnings-requires-clause-waits c o at = subst (HasStatus c.args.loaded.now o) 
 
 pub returns-in_default-clause-roots : goal.returns-in_default-clause-roots
 returns-in_default-clause-roots c o at =
-    no_roots c.args.loaded.now c.look_at.ensures.valid o c.status_at.result (c.status_at.ensures o at.0 at.1) c.in_default.not-Waiting c.new.result.items c.new.ensures.items
+    no_roots c.args.loaded.now c.read_for_proof.ensures.valid o c.status_at.result (c.status_at.ensures o at.0 at.1) c.in_default.not-Waiting c.new.result.items c.new.ensures.items

@@ -29,7 +29,7 @@ returns-clause-reasons c o op m at =
     let found = c.in_ok-found.found.items in
     let flags = c.deref.ensures.value ∙ c.in_ok-flags.ensures in
     let are_at = subst (λ ps. AreAt P ps found) c.deref-2.ensures.value c.in_ok-found.ensures in
-    let all = all_waited_for P c.look_at.ensures.valid g c.graph.ensures c.statuses.result.now c.statuses.ensures c.args.place o (key_of_row (entries P.operations) c.args.place o op at) (c.requires.waits o (op, at))
+    let all = all_waited_for P c.read_for_proof.ensures.valid g c.graph.ensures c.statuses.result.now c.statuses.ensures c.args.place o (key_of_row (entries P.operations) c.args.place o op at) (c.requires.waits o (op, at))
     places c.in_ok-places.ensures.in_order found are_at op m (λ p. subst (λ fs. Contains places p ↔ (HasEdge g p c.args.place × IsSet fs p)) flags (c.in_ok-places.ensures.nodes p)) in
     let listed = c.in_ok-reasons_to_wait.ensures ∙ ap (map (λ (x : Unsatisfied). reason.WaitsFor x)) c.deref-3.ensures.value in
     subst (AreOfKind P o op m 1) (sym listed) all

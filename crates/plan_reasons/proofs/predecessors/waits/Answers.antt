@@ -8,4 +8,4 @@ waited_for-requires-clause-waits c o at = subst (HasStatus c.args.loaded.now o) 
 
 pub returns-in_default-clause-reasons : goal.returns-in_default-clause-reasons
 returns-in_default-clause-reasons c o op m at =
-    none_waited_for c.args.loaded.now c.look_at.ensures.valid o c.status_at.result (c.status_at.ensures o op at) c.in_default.not-Waiting op m c.new.result.items c.new.ensures.items
+    none_waited_for c.args.loaded.now c.read_for_proof.ensures.valid o c.status_at.result (c.status_at.ensures o op at) c.in_default.not-Waiting op m c.new.result.items c.new.ensures.items

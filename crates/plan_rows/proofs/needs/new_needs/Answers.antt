@@ -14,14 +14,14 @@ use Rattle.special_resources.specs.declared.Need.{Need}
 
 -- the places are those of the operations that are new in what is shown
 are_new : (c : In_ok-places) → AreNewPlaces (contents_shown (source_if_any c.args.before)) c.args.shown.now.contents c.in_ok-places.places.items
-are_new c = subst (λ (Q : Contents). AreNewPlaces (contents_shown (source_if_any c.args.before)) Q c.in_ok-places.places.items) c.beside.ensures.contents c.in_ok-places.ensures.places
+are_new c = subst (λ (Q : Contents). AreNewPlaces (contents_shown (source_if_any c.args.before)) Q c.in_ok-places.places.items) c.uncounted.ensures.contents c.in_ok-places.ensures.places
 
 -- as many as there are more of them
 are_few : (c : In_ok-places) → length c.in_ok-places.places.items + length (entries (contents_shown (source_if_any c.args.before)).operations) ≤ length (entries c.args.shown.now.contents.operations)
-are_few c = subst (λ (Q : Contents). length c.in_ok-places.places.items + length (entries (contents_shown (source_if_any c.args.before)).operations) ≤ length (entries Q.operations)) c.beside.ensures.contents c.in_ok-places.ensures.few
+are_few c = subst (λ (Q : Contents). length c.in_ok-places.places.items + length (entries (contents_shown (source_if_any c.args.before)).operations) ≤ length (entries Q.operations)) c.uncounted.ensures.contents c.in_ok-places.ensures.few
 
 pub new_places-requires : goal.new_places-requires
-new_places-requires c = subst (KeepsRecords (contents_shown (source_if_any c.args.before))) (sym c.beside.ensures.contents) c.requires.kept
+new_places-requires c = subst (KeepsRecords (contents_shown (source_if_any c.args.before))) (sym c.uncounted.ensures.contents) c.requires.kept
 
 pub returns-in_err-places-clause-most : goal.returns-in_err-places-clause-most
 returns-in_err-places-clause-most c = let few = kept_few (contents_shown (source_if_any c.args.before)) c.args.shown.now.contents c.requires.kept in omega (arith, few)

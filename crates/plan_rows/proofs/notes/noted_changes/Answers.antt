@@ -6,7 +6,7 @@ use Rattle.plan_records.specs.Rows.{AreChanges, key_of, row_cmp}
 use Rattle.plan_rows.proofs.AllTables.{in_all_tables, in_no_table}
 use Rattle.plan_rows.proofs.Counted.{no_operation_below}
 use Rattle.plan_rows.proofs.MovedRows.{same_occurrences}
-use Rattle.plan_rows.proofs.NotedTables.{all_beside, noted_within, pairs_stay, quantities_keep}
+use Rattle.plan_rows.proofs.NotedTables.{all_facilities, noted_within, pairs_stay, quantities_keep}
 use Rattle.plan_rows.proofs.OccurrencesOf.{places_within}
 use Rattle.plan_rows.proofs.TouchedTables.{amounts_stay, dependencies_stay, needs_stay, quantities_stay, workstations_stay}
 use Rattle.plan_rows.proofs.notes.noted_changes.Goals as goal
@@ -17,12 +17,12 @@ use Rattle.plan_rows.specs.Shown.{plan_shown, shown_with}
 use Rattle.plan_rows.specs.Tables.{AreChangesBelow, IsRowBelow}
 use Rattle.plan_rows.specs.Touched.{AreTouched}
 use Rattle.row_differences.specs.Changes.{AreRowChanges}
-use Rattle.derived_figures.specs.counted_records.specs.States.{ShownState}
+use Rattle.derived_figures.specs.counted_records.specs.States.{CountedState}
 
-pub push_noted_beside-requires : goal.push_noted_beside-requires
-push_noted_beside-requires c =
+pub push_noted_facilities-requires : goal.push_noted_facilities-requires
+push_noted_facilities-requires c =
     let (Q, step) = c.requires.step in
-    record { noted = (step.after, step.shown, all_beside c.args.shown.now.contents step.after.contents.now step.beside c.args.notes.now.beside step.stays step.noted.beside) }
+    record { noted = (step.after, step.shown, all_facilities c.args.shown.now.contents step.after.contents.now step.facilities c.args.notes.now.facilities step.stays step.noted.facilities) }
 
 pub push_noted_occurrences-requires-clause-within : goal.push_noted_occurrences-requires-clause-within
 push_noted_occurrences-requires-clause-within c =
@@ -37,7 +37,7 @@ pub push_noted_operations-requires-clause-within : goal.push_noted_operations-re
 push_noted_operations-requires-clause-within c =
     let (Q, step) = c.requires.step in
     let n = length (entries c.args.shown.now.contents.operations) in
-    subst (λ (x : ShownState). AreWithin (length (entries x.contents.operations)) c.deref-2.result.now) (sym c.in_ok-push_noted_occurrences.ensures.unchanged)
+    subst (λ (x : CountedState). AreWithin (length (entries x.contents.operations)) c.deref-2.result.now) (sym c.in_ok-push_noted_occurrences.ensures.unchanged)
     (subst (AreWithin n) (sym c.deref-2.ensures.value)
     (noted_within (rows_of (keyed_operations step.after)) step.touched c.args.notes.now.operations.items step.noted.operations n step.among.within))
 
@@ -57,12 +57,12 @@ before_operations c R step =
     in
     let meta = c.in_ok-push_meta.ensures P Q refl refl refl refl start in
     let workstations = workstations_stay was now old (Some after) c.push_meta.new.changes step.touched step.among.moved meta in
-    let beside =
-    c.in_ok-push_noted_beside.ensures (shown_with c.args.shown.now.contents c.args.columns) after refl c.requires.shown step.shown
-    (all_beside c.args.shown.now.contents after.contents.now step.beside c.args.notes.now.beside step.stays step.noted.beside) was now workstations
+    let facilities =
+    c.in_ok-push_noted_facilities.ensures (shown_with c.args.shown.now.contents c.args.columns) after refl c.requires.shown step.shown
+    (all_facilities c.args.shown.now.contents after.contents.now step.facilities c.args.notes.now.facilities step.stays step.noted.facilities) was now workstations
     in
     c.in_ok-push_noted_occurrences.ensures.told after step.touched step.noted.places step.shown step.among step.noted.of_operations
-    (subst (AreNotedAt (rows_of (keyed_occurrences after)) step.noted.places) (sym c.deref.ensures.value) step.noted.occurrences) was now beside
+    (subst (AreNotedAt (rows_of (keyed_occurrences after)) step.noted.places) (sym c.deref.ensures.value) step.noted.occurrences) was now facilities
 
 pub returns-clause-changes : goal.returns-clause-changes
 returns-clause-changes c = λ R step.
@@ -76,15 +76,15 @@ returns-clause-changes c = λ R step.
     let same = c.in_ok-push_noted_occurrences.ensures.unchanged in
     let so_far = c.push_noted_operations.new.changes in
     let operations =
-    subst (λ (x : ShownState). AreChangesBelow 6 (plan_shown was (Some (shown_with x.contents l))) Q so_far) same
+    subst (λ (x : CountedState). AreChangesBelow 6 (plan_shown was (Some (shown_with x.contents l))) Q so_far) same
     (c.in_ok-push_noted_operations.ensures.told after step.touched step.shown
-    (subst (λ (x : ShownState). AreTouched (Some (shown_with x.contents l)) (Some after) step.touched) (sym same) step.among)
+    (subst (λ (x : CountedState). AreTouched (Some (shown_with x.contents l)) (Some after) step.touched) (sym same) step.among)
     (subst (AreNotedAt (rows_of (keyed_operations after)) step.touched) (sym c.deref-2.ensures.value) step.noted.operations) was now
-    (subst (λ (x : ShownState). AreChangesBelow 5 (plan_shown was (Some (shown_with x.contents l))) Q c.push_noted_occurrences.new.changes) (sym same) (before_operations ((goal.at.returns-clause-changes c).After-deref-2) R step)))
+    (subst (λ (x : CountedState). AreChangesBelow 5 (plan_shown was (Some (shown_with x.contents l))) Q c.push_noted_occurrences.new.changes) (sym same) (before_operations ((goal.at.returns-clause-changes c).After-deref-2) R step)))
     in
-    let dependencies = dependencies_stay was now (Some s) (Some after) so_far (pairs_stay c.args.shown.now.contents after.contents.now step.beside step.stays) operations in
+    let dependencies = dependencies_stay was now (Some s) (Some after) so_far (pairs_stay c.args.shown.now.contents after.contents.now step.facilities step.stays) operations in
     let needs = needs_stay was now (Some s) (Some after) so_far step.touched step.among.moved dependencies in
-    let quantities = quantities_stay was now (Some s) (Some after) so_far (quantities_keep c.args.shown.now.contents after.contents.now step.beside step.stays) needs in
+    let quantities = quantities_stay was now (Some s) (Some after) so_far (quantities_keep c.args.shown.now.contents after.contents.now step.facilities step.stays) needs in
     let below = amounts_stay was now (Some s) (Some after) so_far step.touched step.among.moved quantities in
     subst (λ (Z : Contents). AreChanges P (plan_held now (Some Z)) so_far.rows.items so_far.gone.items) step.holds (in_all_tables P Q so_far.rows.items so_far.gone.items below)
 

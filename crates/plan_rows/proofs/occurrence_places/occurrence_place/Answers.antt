@@ -7,7 +7,7 @@ use Rattle.plan_rows.proofs.occurrence_places.occurrence_place.Goals as goal
 pub occurrence_place_of-requires : goal.occurrence_place_of-requires
 occurrence_place_of-requires c =
     let (op, at) = c.operation_key-operation.ensures.key in
-    ap is_some (row_found c.beside-beside.result.contents.now c.args.place c.operation_key-operation.result.now op at)
+    ap is_some (row_found c.uncounted-uncounted.result.contents.now c.args.place c.operation_key-operation.result.now op at)
 
 pub returns : goal.returns
 returns c =
@@ -15,7 +15,7 @@ returns c =
     let p = c.occurrence_place_of.result in
     let (op, at) = c.operation_key-operation.ensures.key in
     let (terms, there) = c.occurrence_place_of.ensures.at in
-    let same = c.beside-beside.ensures.contents in
+    let same = c.uncounted-uncounted.ensures.contents in
     record {
       o = o;
       op = op;

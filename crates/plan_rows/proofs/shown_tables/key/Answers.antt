@@ -4,7 +4,7 @@ use Rattle.plan_rows.proofs.Sources.{is_source, some_source}
 use Rattle.plan_rows.proofs.shown_tables.key.Goals as goal
 use Rattle.plan_rows.specs.Rows.{if_shown}
 use Rattle.plan_rows.specs.Shown.{source_if_any}
-use Rattle.plan_rows.specs.declared.shown.TableSource.{TableSource}
+use Rattle.plan_rows.specs.declared.row_sources.TableSource.{TableSource}
 
 pub unwrap-requires : goal.unwrap-requires
 unwrap-requires g c = some_source g.T.Tabled.keyed c.args.source c.args.place c.requires.within

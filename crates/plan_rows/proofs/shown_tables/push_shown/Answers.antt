@@ -17,7 +17,7 @@ differs : (g : _) (c : In_ok-found g)
     (λ i j. slice_get (rows_of (if_shown g.T.Tabled.keyed (source_if_any c.args.before))) i ≡ slice_get (rows_of (g.T.Tabled.keyed (shown_with c.args.shown.now.contents c.args.columns))) j) c.in_ok-found.found.changed.items c.in_ok-found.found.gone.items
 differs g c =
     subst (λ (Q : Contents). AreDifferences (keys_of (if_shown g.T.Tabled.keyed (source_if_any c.args.before))) (keys_of (g.T.Tabled.keyed (shown_with Q c.args.columns)))
-    (λ i j. slice_get (rows_of (if_shown g.T.Tabled.keyed (source_if_any c.args.before))) i ≡ slice_get (rows_of (g.T.Tabled.keyed (shown_with Q c.args.columns))) j) c.in_ok-found.found.changed.items c.in_ok-found.found.gone.items) c.beside.ensures.contents c.in_ok-found.ensures
+    (λ i j. slice_get (rows_of (if_shown g.T.Tabled.keyed (source_if_any c.args.before))) i ≡ slice_get (rows_of (g.T.Tabled.keyed (shown_with Q c.args.columns))) j) c.in_ok-found.found.changed.items c.in_ok-found.found.gone.items) c.uncounted.ensures.contents c.in_ok-found.ensures
 
 pub push_rows-requires-clause-within : goal.push_rows-requires-clause-within
 push_rows-requires-clause-within g c = λ i has. (((differs g ((goal.at.push_rows-requires-clause-within g c).In_ok-found)).has_changed i).0 (subst (λ xs. Contains xs i) c.deref.ensures.value has)).0

@@ -6,7 +6,7 @@ use Rattle.plan_model.specs.Contents.{Operation}
 use Rattle.std.proofs.lemmas.Option.{same_Some}
 use Rattle.plan_status.specs.Incoming.{with_pairs}
 use Rattle.plan_status.proofs.Alike.{decides_on}
-use Rattle.plan_status.proofs.Briefed.{briefed_with}
+use Rattle.plan_status.proofs.Summarized.{summarized_with}
 use Rattle.plan_status.proofs.Incoming.{dead_changes_nothing, stands_behind}
 use Rattle.plan_status.proofs.standings.standing_after.Goals as goal
 use Rattle.plan_status.proofs.standings.standing_after.Goals.{in-Nonreporting, in_default}
@@ -31,6 +31,6 @@ returns-clause-standing c P pairs pair (op, found, is) next its stands =
     let t = c.with_one_more.ensures in
     stands_behind P pairs pair next (op, found, other) c.args.standing.now stands
     c.is_satisfied-satisfied.result c.match-matches.matches
-    (c.is_satisfied-satisfied.ensures (with_pairs pairs P) pair.0 (briefed_with P pairs pair.0 c.args.predecessor.now (op, found, is)) its)
+    (c.is_satisfied-satisfied.ensures (with_pairs pairs P) pair.0 (summarized_with P pairs pair.0 c.args.predecessor.now (op, found, is)) its)
     (decides_on P pair.0 op attribute c.match-matches.matches found is.attribute nonreporting)
     c.with_one_more.result t.live t.satisfied t.nonreporting t.waiting

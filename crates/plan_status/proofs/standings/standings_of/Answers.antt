@@ -3,7 +3,7 @@ use Rattle.std.proofs.lemmas.Option.{slice_get-get_or}
 use Rattle.std.specs.FinMap.{entries}
 use Rattle.std.specs.FinSet.{from_list}
 use Rattle.plan_model.specs.Contents.{Contents, pair_cmp}
-use Rattle.plan_status.specs.Briefs.{IsBriefedBy}
+use Rattle.plan_status.specs.Summaries.{IsSummarizedBy}
 use Rattle.plan_status.proofs.InTurn.{AreAllInTurn, IsPairAt, all_shown, comes_after, ends_within, few_edges, pair_below, pair_of, pairs_all, pairs_more, pairs_so_far}
 use Rattle.plan_status.proofs.LoadedRows.{few_rows}
 use Rattle.plan_status.proofs.RowKeys.{row_shown}
@@ -13,10 +13,10 @@ use Rattle.plan_status.proofs.standings.standings_of.Goals.{After-deref-before-i
 
 pub loop-before-init : goal.loop-before-init
 loop-before-init c P plan =
-    let n = length c.args.briefs.now in
+    let n = length c.args.summaries.now in
     let all = c.in_ok-standings.ensures.items_if_clones_equal (λ y h. search rules) in
     record {
-      so_far = standings_first P n c.in_ok-standings.standings.items plan.briefs.size all;
+      so_far = standings_first P n c.in_ok-standings.standings.items plan.summaries.size all;
       at_most = at_most_first n c.in_ok-standings.standings.items all;
     }
 
@@ -29,49 +29,49 @@ abbrev edge : After-deref-before-items → ℕ → ℕ × ℕ
 edge c i = slice_index_or c.deref-before-items.result.now i (0, 0)
 
 -- a plan that is briefed so
-module _ (c : After-deref-before-items) (P : Contents) (plan : IsBriefedBy P c.args.graph.now c.args.briefs.now) where
+module _ (c : After-deref-before-items) (P : Contents) (plan : IsSummarizedBy P c.args.graph.now c.args.summaries.now) where
   joined : (i : ℕ) → i < length c.deref-before-items.result.now → IsPairAt P (edge c i)
   joined i lt = pair_below P plan.valid c.args.graph.now plan.graph c.deref-before-items.result.now (all_edges c) i lt
 
-  -- the ends of an edge are within the briefs
-  within : (i : ℕ) → i < length c.deref-before-items.result.now → ((edge c i).0 < length c.args.briefs.now) × ((edge c i).1 < length c.args.briefs.now)
+  -- the ends of an edge are within the summaries
+  within : (i : ℕ) → i < length c.deref-before-items.result.now → ((edge c i).0 < length c.args.summaries.now) × ((edge c i).1 < length c.args.summaries.now)
   within i lt =
       let ends = ends_within P (edge c i) (joined i lt) in
-      (omega (arith, ends.0, plan.briefs.size), omega (arith, ends.1, plan.briefs.size))
+      (omega (arith, ends.0, plan.summaries.size), omega (arith, ends.1, plan.summaries.size))
 
-pub bounds-briefs-before : goal.bounds-briefs-before
-bounds-briefs-before c =
-    let a : After-deref-before-items = (goal.at.bounds-briefs-before c).After-deref-before-items in
+pub bounds-summaries-before : goal.bounds-summaries-before
+bounds-summaries-before c =
+    let a : After-deref-before-items = (goal.at.bounds-summaries-before c).After-deref-before-items in
     (within a c.requires.0 c.requires.1 c.loop-before.before-index c.loop-before-test.true).0
 
-pub offset_bounds-briefs-before : goal.offset_bounds-briefs-before
-offset_bounds-briefs-before c =
+pub offset_bounds-summaries-before : goal.offset_bounds-summaries-before
+offset_bounds-summaries-before c =
     let P = c.requires.0 in
     let plan = c.requires.1 in
-    let a : After-deref-before-items = (goal.at.offset_bounds-briefs-before c).After-deref-before-items in
+    let a : After-deref-before-items = (goal.at.offset_bounds-summaries-before c).After-deref-before-items in
     let lt = (within a P plan c.loop-before.before-index c.loop-before-test.true).0 in
-    omega (arith, lt, plan.briefs.size, few_rows P plan.valid)
+    omega (arith, lt, plan.summaries.size, few_rows P plan.valid)
 
 pub index-requires : goal.index-requires
 index-requires c =
     let a : After-deref-before-items = (goal.at.index-requires c).After-deref-before-items in
     let lt = (within a c.requires.0 c.requires.1 c.loop-before.before-index c.loop-before-test.true).1 in
     let size = (c.loop-before.invariant c.requires.0 c.requires.1).so_far.size in
-    omega (arith, lt, size, c.requires.1.briefs.size, c.loop-before.standings.ok.0)
+    omega (arith, lt, size, c.requires.1.summaries.size, c.loop-before.standings.ok.0)
 
 pub index-requires-in-loop-before : goal.index-requires-in-loop-before
 index-requires-in-loop-before c =
     let a : After-deref-before-items = (goal.at.index-requires-in-loop-before c).After-deref-before-items in
     let lt = (within a c.requires.0 c.requires.1 c.loop-before.before-index c.loop-before-test.true).0 in
     let size = (c.loop-before.invariant c.requires.0 c.requires.1).so_far.size in
-    omega (arith, lt, size, c.requires.1.briefs.size, c.loop-before.standings.ok.0)
+    omega (arith, lt, size, c.requires.1.summaries.size, c.loop-before.standings.ok.0)
 
 pub index_mut-requires : goal.index_mut-requires
 index_mut-requires c =
     let a : After-deref-before-items = (goal.at.index_mut-requires c).After-deref-before-items in
     let lt = (within a c.requires.0 c.requires.1 c.loop-before.before-index c.loop-before-test.true).1 in
     let size = (c.loop-before.invariant c.requires.0 c.requires.1).so_far.size in
-    omega (arith, lt, size, c.requires.1.briefs.size, c.loop-before.standings.ok.0)
+    omega (arith, lt, size, c.requires.1.summaries.size, c.loop-before.standings.ok.0)
 
 pub standing_after-requires : goal.standing_after-requires
 standing_after-requires c =
@@ -91,7 +91,7 @@ standing_after-requires c =
 pub loop-before-preserved : goal.loop-before-preserved
 loop-before-preserved c P plan =
     let graph = c.args.graph.now in
-    let briefs = c.args.briefs.now in
+    let summaries = c.args.summaries.now in
     let edges = c.deref-before-items.result.now in
     let i = c.loop-before.before-index in
     let a : After-deref-before-items = (goal.at.loop-before-preserved c).After-deref-before-items in
@@ -102,9 +102,9 @@ loop-before-preserved c P plan =
     let pair = joined a P plan i lt in
     let rows = entries P.operations in
     let keys = pair_of rows e in
-    let brief = c.index-briefs-before.result in
-    let is_brief = row_shown briefs briefs refl e.0 brief (within a P plan i lt).0 c.index-briefs-before.is in
-    let has = plan.briefs.each e.0 keys.0 pair.before brief pair.first is_brief in
+    let summary = c.index-summaries-before.result in
+    let is_summary = row_shown summaries summaries refl e.0 summary (within a P plan i lt).0 c.index-summaries-before.is in
+    let has = plan.summaries.each e.0 keys.0 pair.before summary pair.first is_summary in
     let standings = c.loop-before.standings.items in
     let invariant = c.loop-before.invariant P plan in
     let so_far = invariant.so_far in

@@ -12,9 +12,9 @@ loop-i-init c P are standings = none_so_far (entries P.operations) (HasStatus P)
 pub loop-i-preserved : goal.loop-i-preserved
 loop-i-preserved c P are standings =
     let i = c.loop-i.i in
-    let lt : i < length c.args.briefs.now = omega (arith, c.loop-i-test.true, c.requires) in
-    let b = c.index-briefs-i.result in
-    let at = row_shown c.args.briefs.now c.args.briefs.now refl i b lt c.index-briefs-i.is in
+    let lt : i < length c.args.summaries.now = omega (arith, c.loop-i-test.true, c.requires) in
+    let b = c.index-summaries-i.result in
+    let at = row_shown c.args.summaries.now c.args.summaries.now refl i b lt c.index-summaries-i.is in
     rw c.in_ok-push.ensures.items
     (one_more (entries P.operations) (HasStatus P) i c.loop-i.statuses.items (c.loop-i.invariant P are standings) c.status.result (λ k v here.
     c.status.ensures P k (are.each i k v b here at) (standings.each i k v _ here (slice_get-get_or c.args.standings.now i _ c.loop-i-test.true))))

@@ -1,12 +1,12 @@
 use Rattle.std.proofs.Common.{◌≡◌, ◌⊎◌, ◌∙◌, ℕ, ◌+◌, ◌≤◌, ap, sym, subst, arith, List, length, map, Some, None, rules}
 use Rattle.std.specs.FinMap.{entries}
 use Rattle.std.specs.List.Sorted.{IsStrictlySortedBy}
-use Rattle.request_outcomes.proofs.Extensions.{bad_text_stops, extension_anew, extension_looks}
-use Rattle.request_outcomes.proofs.LedTo.{settled_count}
+use Rattle.request_outcomes.proofs.Extensions.{bad_text_stops, extension_rebuild, extension_looks}
+use Rattle.request_outcomes.proofs.OutcomeTo.{settled_count}
 use Rattle.request_outcomes.proofs.extending.extended_outcome.Goals as goal
 use Rattle.request_outcomes.proofs.extending.extended_outcome.Goals.{After-extended}
-use Rattle.request_outcomes.specs.Anew.{IsAnewOf}
-use Rattle.request_outcomes.specs.Asked.{plan_asked}
+use Rattle.request_outcomes.specs.Rebuilds.{IsRebuildOf}
+use Rattle.request_outcomes.specs.DatedRequests.{plan_asked}
 use Rattle.plan_records.specs.Changes.{LeavesOver, with_added}
 use Rattle.plan_records.specs.Rows.{AreRows, key_of, row_cmp}
 use Rattle.plan_records.specs.declared.PlanRow.{PlanRow}
@@ -15,7 +15,7 @@ use Rattle.plan_drafts.specs.Contents.{added_of}
 use Rattle.plan_model.specs.Contents.{Contents}
 use Rattle.plan_model.specs.Plan.{plan_held}
 use Rattle.small_requests.specs.plan_changes.proofs.Answered.{if_ok}
-use Rattle.small_requests.specs.derived_figures.specs.Frames.{IsFrameOf}
+use Rattle.small_requests.specs.derived_figures.specs.DerivedRefs.{AreDerivedOf}
 use Rattle.small_requests.specs.plan_laws.proofs.Leaving.{left_is_sound}
 use Rattle.plan_model.specs.Valid.{IsSound}
 
@@ -27,10 +27,10 @@ returns-in_err-extension-clause-refused c =
     search rules
 
 pub rows_of-requires : goal.rows_of-requires
-rows_of-requires c = c.columns_of.ensures c.args.shown.now.contents c.beside.ensures.sound c.requires.frame
+rows_of-requires c = c.columns_of.ensures c.args.shown.now.contents c.uncounted.ensures.sound c.requires.derived
 
-pub left_of-requires : goal.left_of-requires
-left_of-requires c = subst (λ (P : Contents). IsFrameOf P c.args.frame) (sym c.in_ok-rows.ensures.contents) c.requires.frame
+pub remaining_of-requires : goal.remaining_of-requires
+remaining_of-requires c = subst (λ (P : Contents). AreDerivedOf P c.args.derived) (sym c.in_ok-rows.ensures.contents) c.requires.derived
 
 pub extended-requires-clause-in_order : goal.extended-requires-clause-in_order
 extended-requires-clause-in_order c = subst (λ (rows : List PlanRow). IsStrictlySortedBy row_cmp (map key_of rows)) (sym c.deref.ensures.value) c.in_ok-rows.ensures.in_order
@@ -56,19 +56,19 @@ module _ (c : After-extended) where
       let some : c.args.extension.now ≡ Some c.in_ok-extension.extension.now = search rules in
       c.requires.is ∙ ap what.Extend (some ∙ ap Some c.parts.ensures.view)
 
-  is_anew : IsAnewOf (plan_asked P c.args.asked.now) c.args.asked.now.request.now c.args.asked.now.at c.extended.result
-  is_anew =
+  is_rebuild : IsRebuildOf (plan_asked P c.args.asked.now) c.args.asked.now.request.now c.args.asked.now.at c.extended.result
+  is_rebuild =
       let q = c.args.asked.now in
       let a = c.extended.result in
       let are = subst (λ (rows : List PlanRow). AreRows (plan_held q.clock (Some P)) rows) (sym c.deref.ensures.value) c.in_ok-rows.ensures.rows in
-      extension_anew P q.clock q.at q.request.now c.requires.at c.requires.onward c.requires.moment (added_of c.parts.result.now) is left leaves c.parts.ensures.in_order.extension a
-      c.extended.ensures.clear c.extended.ensures.settled (if_ok a.remade (λ x told. told (plan_held q.clock (Some P)) are) c.extended.ensures.told) c.extended.ensures.refused
+      extension_rebuild P q.clock q.at q.request.now c.requires.at c.requires.onward c.requires.moment (added_of c.parts.result.now) is left leaves c.parts.ensures.in_order.extension a
+      c.extended.ensures.clear c.extended.ensures.rebuilt_parts (if_ok a.rebuilt (λ x told. told (plan_held q.clock (Some P)) are) c.extended.ensures.told) c.extended.ensures.refused
 
 pub returns-clause-contents : goal.returns-clause-contents
 returns-clause-contents c = c.in_ok-left.ensures.contents ∙ c.in_ok-rows.ensures.contents
 
-pub returns-clause-anew : goal.returns-clause-anew
-returns-clause-anew c = is_anew (goal.at.returns-clause-anew c).After-extended
+pub returns-clause-rebuild : goal.returns-clause-rebuild
+returns-clause-rebuild c = is_rebuild (goal.at.returns-clause-rebuild c).After-extended
 
 pub returns-clause-looked : goal.returns-clause-looked
 returns-clause-looked c =
@@ -79,8 +79,8 @@ returns-clause-looked c =
     let copy = c.in_ok-left.ensures in
     let same = ap (λ (Q : Contents). length (entries Q.operations)) rows.contents in
     extension_looks (P at) q.clock q.at q.request.now c.requires.at c.requires.onward c.requires.moment (added_of c.parts.result.now) (is at) (left at) (leaves at) c.parts.ensures.in_order.extension a
-    c.beside.ensures.sound c.rows_of.new.shown.looks c.left_of.new.shown.looks (is_anew at)
+    c.uncounted.ensures.sound c.rows_of.new.shown.looks c.remaining_of.new.shown.looks (is_rebuild at)
     (omega (arith, rows.most, copy.most, same, c.requires.none))
-    (subst (λ (n : ℕ). (18446744073709551615 ≤ c.left_of.new.shown.looks) ⊎ (c.rows_of.new.shown.looks + n ≤ c.left_of.new.shown.looks)) same copy.least)
+    (subst (λ (n : ℕ). (18446744073709551615 ≤ c.remaining_of.new.shown.looks) ⊎ (c.rows_of.new.shown.looks + n ≤ c.remaining_of.new.shown.looks)) same copy.least)
     c.extended.ensures.most
-    (settled_count (with_added (left at) (added_of c.parts.result.now)) q.at a a.remade c.extended.ensures.settled)
+    (settled_count (with_added (left at) (added_of c.parts.result.now)) q.at a a.rebuilt c.extended.ensures.rebuilt_parts)

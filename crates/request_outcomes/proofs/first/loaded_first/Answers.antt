@@ -1,9 +1,9 @@
 use Rattle.std.proofs.Common.{◌≡◌, refl, ap, arith, subst, sym, None}
-use Rattle.request_outcomes.proofs.LedTo.{anew_by, first_is_whole, first_looks, settled_count}
+use Rattle.request_outcomes.proofs.OutcomeTo.{rebuild_by, first_is_whole, first_looks, settled_count}
 use Rattle.request_outcomes.proofs.Preparing.{made_sound}
 use Rattle.request_outcomes.proofs.first.loaded_first.Goals as goal
-use Rattle.request_outcomes.proofs.first.loaded_first.Goals.{After-made_anew}
-use Rattle.request_outcomes.specs.Anew.{IsAnewOf}
+use Rattle.request_outcomes.proofs.first.loaded_first.Goals.{After-rebuilt_plan}
+use Rattle.request_outcomes.specs.Rebuilds.{IsRebuildOf}
 use Rattle.request_outcomes.specs.Requested.{AreMadeBy}
 use Rattle.plan_drafts.specs.PlanGraphs.{IsGraphFor}
 use Rattle.plan_model.specs.Contents.{nothing}
@@ -11,34 +11,34 @@ use Rattle.plan_model.specs.Plan.{plan_held}
 use Rattle.plan_model.specs.Ready.{named}
 use Rattle.small_requests.specs.plan_changes.proofs.Answered.{if_ok}
 use Rattle.small_requests.specs.plan_rows.proofs.Sources.{nothing_kept}
-use Rattle.small_requests.specs.counted_records.specs.States.{ShownState}
+use Rattle.small_requests.specs.counted_records.specs.States.{CountedState}
 
 pub into_shown-requires : goal.into_shown-requires
 into_shown-requires c =
     made_sound (plan_held c.args.clock None) c.args.request.now c.requires.clear c.in_ok-copy.copy c.in_ok-copy.ensures.made c.requires.sound
 
-pub made_anew-requires-clause-graph : goal.made_anew-requires-clause-graph
-made_anew-requires-clause-graph c = subst (λ (s : ShownState). IsGraphFor s.contents c.in_ok-copy.graph) (sym c.into_shown.ensures) c.in_ok-copy.ensures.graph
+pub rebuilt_plan-requires-clause-graph : goal.rebuilt_plan-requires-clause-graph
+rebuilt_plan-requires-clause-graph c = subst (λ (s : CountedState). IsGraphFor s.contents c.in_ok-copy.graph) (sym c.into_shown.ensures) c.in_ok-copy.ensures.graph
 
-pub made_anew-requires-clause-before : goal.made_anew-requires-clause-before
-made_anew-requires-clause-before c os chosen = (tt, nothing_kept (named os c.into_shown.result.contents))
+pub rebuilt_plan-requires-clause-before : goal.rebuilt_plan-requires-clause-before
+rebuilt_plan-requires-clause-before c os chosen = (tt, nothing_kept (named os c.into_shown.result.contents))
 
 -- it is what the request leads to
-is_anew : (c : After-made_anew) → IsAnewOf (plan_held c.args.clock None) c.args.request.now c.args.at c.made_anew.result
-is_anew c =
+is_rebuild : (c : After-rebuilt_plan) → IsRebuildOf (plan_held c.args.clock None) c.args.request.now c.args.at c.rebuilt_plan.result
+is_rebuild c =
     let Q = c.into_shown.result.contents in
-    let made = subst (λ (s : ShownState). AreMadeBy nothing c.args.request.now.what s.contents) (sym c.into_shown.ensures) c.in_ok-copy.ensures.made in
-    anew_by (plan_held c.args.clock None) c.args.request.now c.requires.clear Q made c.args.at c.requires.at c.made_anew.result c.made_anew.ensures.settled
-    (if_ok c.made_anew.result.remade (λ x told. told (plan_held c.args.clock None) refl) c.made_anew.ensures.told) c.made_anew.ensures.refused
+    let made = subst (λ (s : CountedState). AreMadeBy nothing c.args.request.now.what s.contents) (sym c.into_shown.ensures) c.in_ok-copy.ensures.made in
+    rebuild_by (plan_held c.args.clock None) c.args.request.now c.requires.clear Q made c.args.at c.requires.at c.rebuilt_plan.result c.rebuilt_plan.ensures.rebuilt_parts
+    (if_ok c.rebuilt_plan.result.rebuilt (λ x told. told (plan_held c.args.clock None) refl) c.rebuilt_plan.ensures.told) c.rebuilt_plan.ensures.refused
 
-pub returns-clause-anew : goal.returns-clause-anew
-returns-clause-anew c = is_anew ((goal.at.returns-clause-anew c).After-made_anew)
+pub returns-clause-rebuild : goal.returns-clause-rebuild
+returns-clause-rebuild c = is_rebuild ((goal.at.returns-clause-rebuild c).After-rebuilt_plan)
 
 pub returns-clause-looked : goal.returns-clause-looked
 returns-clause-looked c =
     let q = c.args.request.now in
     let Q = c.into_shown.result.contents in
-    let a = c.made_anew.result in
-    first_looks c.whole_plans_look_few.ensures c.args.clock q c.args.at (first_is_whole c.args.clock q c.requires.clear) Q a (is_anew ((goal.at.returns-clause-looked c).After-made_anew))
-    (if_ok a.remade (λ x h. let none : c.into_shown.result.looks ≡ 0 = ap (λ (s : ShownState). s.looks) c.into_shown.ensures in omega (arith, h, none)) c.made_anew.ensures.most)
-    (settled_count Q c.args.at a a.remade c.made_anew.ensures.settled)
+    let a = c.rebuilt_plan.result in
+    first_looks c.whole_plans_look_few.ensures c.args.clock q c.args.at (first_is_whole c.args.clock q c.requires.clear) Q a (is_rebuild ((goal.at.returns-clause-looked c).After-rebuilt_plan))
+    (if_ok a.rebuilt (λ x h. let none : c.into_shown.result.looks ≡ 0 = ap (λ (s : CountedState). s.looks) c.into_shown.ensures in omega (arith, h, none)) c.rebuilt_plan.ensures.most)
+    (settled_count Q c.args.at a a.rebuilt c.rebuilt_plan.ensures.rebuilt_parts)

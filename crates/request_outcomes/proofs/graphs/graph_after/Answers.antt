@@ -14,26 +14,26 @@ use Rattle.small_requests.specs.plan_changes.proofs.Answered.{if_ok}
 
 pub returns-in-DeleteOccurrence-clause-graph : goal.returns-in-DeleteOccurrence-clause-graph
 returns-in-DeleteOccurrence-clause-graph c =
-    let P = c.args.beside.now.contents.now in
+    let P = c.args.uncounted.now.contents.now in
     let Q = c.args.new.now.contents.now in
     let change = subst (λ (w : What). Changes P w Q) c.in-DeleteOccurrence.is c.requires.made.changes in
     if_ok c.try_clone.result (λ copy same. subst (λ (g : Digraph). IsGraphFor Q g) (sym same) (deletion_keeps_graph P Q c.in-DeleteOccurrence.field-0 change c.args.graph.now c.requires.graph)) c.try_clone.ensures.same
 
 pub graph_with-requires-clause-first : goal.graph_with-requires-clause-first
 graph_with-requires-clause-first c =
-    let P = c.args.beside.now.contents.now in
+    let P = c.args.uncounted.now.contents.now in
     let known = subst (λ (w : What). MayBeDone P c.requires.clear.0 w refusal.UnknownOperation) c.in-AddDependency.is (c.requires.clear.1 refusal.UnknownOperation) in
     some_is (get P.operations c.in-AddDependency.predecessor) known.0.0 known.0.1
 
 pub graph_with-requires-clause-second : goal.graph_with-requires-clause-second
 graph_with-requires-clause-second c =
-    let P = c.args.beside.now.contents.now in
+    let P = c.args.uncounted.now.contents.now in
     let known = subst (λ (w : What). MayBeDone P c.requires.clear.0 w refusal.UnknownOperation) c.in-AddDependency.is (c.requires.clear.1 refusal.UnknownOperation) in
     some_is (get P.operations c.in-AddDependency.successor) known.1.0 known.1.1
 
 pub returns-in-AddDependency-clause-graph : goal.returns-in-AddDependency-clause-graph
 returns-in-AddDependency-clause-graph c =
-    let P = c.args.beside.now.contents.now in
+    let P = c.args.uncounted.now.contents.now in
     let Q = c.args.new.now.contents.now in
     let change = subst (λ (w : What). Changes P w Q) c.in-AddDependency.is c.requires.made.changes in
     subst (λ (R : Contents). IfOk c.graph_with.result (λ (g : Digraph). IsGraphFor R g)) (sym change) c.graph_with.ensures.graph

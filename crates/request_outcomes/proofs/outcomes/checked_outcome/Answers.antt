@@ -1,7 +1,7 @@
 use Rattle.std.proofs.Common.{inl, inr, sym, subst}
 use Rattle.request_outcomes.proofs.Refusing.{is_refused, may_be_accepted}
 use Rattle.request_outcomes.proofs.outcomes.checked_outcome.Goals as goal
-use Rattle.request_outcomes.specs.Asked.{IsAcceptable, plan_asked}
+use Rattle.request_outcomes.specs.DatedRequests.{IsAcceptable, plan_asked}
 use Rattle.plan_model.specs.Contents.{Contents}
 
 pub accepted_outcome-requires-clause-acceptable : goal.accepted_outcome-requires-clause-acceptable

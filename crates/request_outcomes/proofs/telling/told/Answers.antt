@@ -16,7 +16,7 @@ noted : (c : After-columns_of-columns) → IsNotedStep (Some (shown_with c.args.
 noted c =
     let P = c.args.shown.now.contents in
     let trial = c.requires.trial.2 in
-    trial.step.notes (shown_with P c.columns_of-columns.result) (c.columns_of-columns.ensures P trial.edit.fits.sound c.requires.frame) refl
+    trial.step.notes (shown_with P c.columns_of-columns.result) (c.columns_of-columns.ensures P trial.edit.fits.sound c.requires.derived) refl
 
 pub noted_changes-requires-clause-step : goal.noted_changes-requires-clause-step
 noted_changes-requires-clause-step c = (contents_then c.args.shown.now.contents c.args.edit c.args.step, noted (goal.at.noted_changes-requires-clause-step c).After-columns_of-columns)

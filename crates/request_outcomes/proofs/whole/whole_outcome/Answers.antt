@@ -1,22 +1,22 @@
 use Rattle.std.proofs.Common.{◌≡◌, ◌∙◌, sym, subst, ap, arith, length}
 use Rattle.std.specs.FinMap.{entries}
-use Rattle.request_outcomes.proofs.LedTo.{needs_plan, whole_looks}
+use Rattle.request_outcomes.proofs.OutcomeTo.{needs_plan, whole_looks}
 use Rattle.request_outcomes.proofs.Preparing.{is_clear, made_sound, sound_at}
 use Rattle.request_outcomes.proofs.whole.whole_outcome.Goals as goal
-use Rattle.request_outcomes.proofs.whole.whole_outcome.Goals.{After-anew_of, In_ok-new}
-use Rattle.request_outcomes.specs.Anew.{IsAnewOf}
-use Rattle.request_outcomes.specs.Asked.{IsAcceptable, plan_asked}
+use Rattle.request_outcomes.proofs.whole.whole_outcome.Goals.{After-rebuild_of, In_ok-new}
+use Rattle.request_outcomes.specs.Rebuilds.{IsRebuildOf}
+use Rattle.request_outcomes.specs.DatedRequests.{IsAcceptable, plan_asked}
 use Rattle.request_outcomes.specs.Requested.{AreMadeBy}
 use Rattle.plan_records.specs.Acceptance.{MayBeDone, minute_of}
 use Rattle.plan_basics.specs.Refusals.{NoneRefuses}
 use Rattle.plan_model.specs.Contents.{Contents}
 use Rattle.plan_model.specs.Valid.{IsSound}
 use Rattle.small_requests.specs.plan_changes.proofs.Answered.{if_ok}
-use Rattle.small_requests.specs.derived_figures.specs.Frames.{IsFrameOf}
-use Rattle.small_requests.specs.counted_records.specs.States.{ShownState}
+use Rattle.small_requests.specs.derived_figures.specs.DerivedRefs.{AreDerivedOf}
+use Rattle.small_requests.specs.counted_records.specs.States.{CountedState}
 
 pub changed-requires-clause-sound : goal.changed-requires-clause-sound
-changed-requires-clause-sound c = subst IsSound (sym c.in_ok-copy.ensures.copy) c.beside.ensures.sound
+changed-requires-clause-sound c = subst IsSound (sym c.in_ok-copy.ensures.copy) c.uncounted.ensures.sound
 
 pub changed-requires-clause-needs : goal.changed-requires-clause-needs
 changed-requires-clause-needs c = needs_plan c.args.shown.now.contents c.args.asked.now.clock c.args.asked.now.request.now c.requires.acceptable.clear
@@ -34,35 +34,35 @@ pub into_shown-requires : goal.into_shown-requires
 into_shown-requires c =
     let P = c.args.shown.now.contents in
     let q = c.args.asked.now in
-    made_sound (plan_asked P q) q.request.now c.requires.acceptable.clear c.in_ok-new.new (made ((goal.at.into_shown-requires c).In_ok-new)) (sound_at q.clock P c.requires.acceptable.clock c.beside.ensures.sound)
+    made_sound (plan_asked P q) q.request.now c.requires.acceptable.clear c.in_ok-new.new (made ((goal.at.into_shown-requires c).In_ok-new)) (sound_at q.clock P c.requires.acceptable.clock c.uncounted.ensures.sound)
 
-pub anew_of-requires-clause-frame : goal.anew_of-requires-clause-frame
-anew_of-requires-clause-frame c = subst (λ (P : Contents). IsFrameOf P c.args.frame) (sym (c.beside-2.ensures.contents ∙ c.in_ok-copy.ensures.contents)) c.requires.frame
+pub rebuild_of-requires-clause-derived : goal.rebuild_of-requires-clause-derived
+rebuild_of-requires-clause-derived c = subst (λ (P : Contents). AreDerivedOf P c.args.derived) (sym (c.uncounted-2.ensures.contents ∙ c.in_ok-copy.ensures.contents)) c.requires.derived
 
-pub anew_of-requires-clause-acceptable : goal.anew_of-requires-clause-acceptable
-anew_of-requires-clause-acceptable c = subst (λ (P : Contents). IsAcceptable P c.args.asked.now) (sym (c.beside-2.ensures.contents ∙ c.in_ok-copy.ensures.contents)) c.requires.acceptable
+pub rebuild_of-requires-clause-acceptable : goal.rebuild_of-requires-clause-acceptable
+rebuild_of-requires-clause-acceptable c = subst (λ (P : Contents). IsAcceptable P c.args.asked.now) (sym (c.uncounted-2.ensures.contents ∙ c.in_ok-copy.ensures.contents)) c.requires.acceptable
 
-pub anew_of-requires-clause-made : goal.anew_of-requires-clause-made
-anew_of-requires-clause-made c =
+pub rebuild_of-requires-clause-made : goal.rebuild_of-requires-clause-made
+rebuild_of-requires-clause-made c =
     let w = c.args.asked.now.request.now.what in
-    subst (λ (P : Contents). AreMadeBy P w c.into_shown.result.contents) (sym (c.beside-2.ensures.contents ∙ c.in_ok-copy.ensures.contents))
-    (subst (λ (s : ShownState). AreMadeBy c.args.shown.now.contents w s.contents) (sym c.into_shown.ensures) (made ((goal.at.anew_of-requires-clause-made c).In_ok-new)))
+    subst (λ (P : Contents). AreMadeBy P w c.into_shown.result.contents) (sym (c.uncounted-2.ensures.contents ∙ c.in_ok-copy.ensures.contents))
+    (subst (λ (s : CountedState). AreMadeBy c.args.shown.now.contents w s.contents) (sym c.into_shown.ensures) (made ((goal.at.rebuild_of-requires-clause-made c).In_ok-new)))
 
 -- it is what the request leads to in the plan
-is_anew : (c : After-anew_of) → IsAnewOf (plan_asked c.args.shown.now.contents c.args.asked.now) c.args.asked.now.request.now c.args.asked.now.at c.anew_of.result
-is_anew c = subst (λ (P : Contents). IsAnewOf (plan_asked P c.args.asked.now) c.args.asked.now.request.now c.args.asked.now.at c.anew_of.result) (c.beside-2.ensures.contents ∙ c.in_ok-copy.ensures.contents) c.anew_of.ensures.anew
+is_rebuild : (c : After-rebuild_of) → IsRebuildOf (plan_asked c.args.shown.now.contents c.args.asked.now) c.args.asked.now.request.now c.args.asked.now.at c.rebuild_of.result
+is_rebuild c = subst (λ (P : Contents). IsRebuildOf (plan_asked P c.args.asked.now) c.args.asked.now.request.now c.args.asked.now.at c.rebuild_of.result) (c.uncounted-2.ensures.contents ∙ c.in_ok-copy.ensures.contents) c.rebuild_of.ensures.rebuild
 
-pub returns-clause-anew : goal.returns-clause-anew
-returns-clause-anew c = is_anew ((goal.at.returns-clause-anew c).After-anew_of)
+pub returns-clause-rebuild : goal.returns-clause-rebuild
+returns-clause-rebuild c = is_rebuild ((goal.at.returns-clause-rebuild c).After-rebuild_of)
 
 pub returns-clause-looked : goal.returns-clause-looked
 returns-clause-looked c =
     let P = c.args.shown.now.contents in
     let q = c.args.asked.now in
     let Q = c.into_shown.result.contents in
-    let a = c.anew_of.result in
+    let a = c.rebuild_of.result in
     let copy = c.in_ok-copy.ensures in
-    let same = ap (λ (P : Contents). length (entries P.operations)) (c.beside-2.ensures.contents ∙ copy.contents) in
-    let none : c.into_shown.result.looks ≡ 0 = ap (λ (s : ShownState). s.looks) c.into_shown.ensures in
-    whole_looks c.whole_plans_look_few.ensures P q.clock q.request.now q.at c.args.shown.now.looks c.copied.new.self.looks c.beside.ensures.sound c.requires.whole Q a (is_anew ((goal.at.returns-clause-looked c).After-anew_of))
-    (omega (arith, copy.most, c.requires.few)) (if_ok a.remade (λ x most. omega (arith, most, same, none)) c.anew_of.ensures.most) c.anew_of.ensures.operations copy.least
+    let same = ap (λ (P : Contents). length (entries P.operations)) (c.uncounted-2.ensures.contents ∙ copy.contents) in
+    let none : c.into_shown.result.looks ≡ 0 = ap (λ (s : CountedState). s.looks) c.into_shown.ensures in
+    whole_looks c.whole_plans_look_few.ensures P q.clock q.request.now q.at c.args.shown.now.looks c.copied.new.self.looks c.uncounted.ensures.sound c.requires.whole Q a (is_rebuild ((goal.at.returns-clause-looked c).After-rebuild_of))
+    (omega (arith, copy.most, c.requires.few)) (if_ok a.rebuilt (λ x most. omega (arith, most, same, none)) c.rebuild_of.ensures.most) c.rebuild_of.ensures.operations copy.least

@@ -14,13 +14,13 @@ loop-node-init g c = record {
   gone = [];
   among = λ n has. absurd (contains_none n has);
   covered = λ n has. inr has;
-  clearing = begun c.args.graph.now c.args.kept.now c.requires.rerun.0 c.requires.rerun.1;
+  clearing = begun c.args.graph.now c.args.wait_states.now c.requires.rerun.0 c.requires.rerun.1;
   places = λ e has. inl has;
   journaled = record { size = refl; back = refl; within = λ all. all };
 }
 
 pub returns-in_err-clear-clause-journaled : goal.returns-in_err-clear-clause-journaled
-returns-in_err-clear-clause-journaled g c = journaled_on c.args.kept.now c.loop-node.kept c.clear.new.kept c.args.journal.now.items c.loop-node.journal.items c.clear.new.journal.items
+returns-in_err-clear-clause-journaled g c = journaled_on c.args.wait_states.now c.loop-node.wait_states c.clear.new.wait_states c.args.journal.now.items c.loop-node.journal.items c.clear.new.journal.items
     c.loop-node.invariant.journaled c.in_err-clear.ensures.journaled
 
 pub loop-node-preserved : goal.loop-node-preserved
@@ -41,7 +41,7 @@ loop-node-preserved g c =
           | inr later ↦ inr later
         ]
       ];
-      clearing = c.in_ok-clear.ensures.step c.args.kept.now c.loop-node.invariant.gone c.loop-node.invariant.clearing;
+      clearing = c.in_ok-clear.ensures.step c.args.wait_states.now c.loop-node.invariant.gone c.loop-node.invariant.clearing;
       places = λ e has. elim (c.in_ok-clear.ensures.places e has) [
         | inl before ↦ c.loop-node.invariant.places e before
         | inr there ↦ inr (elim there [
@@ -49,14 +49,14 @@ loop-node-preserved g c =
           | inr edge ↦ inr (s, Contains-get_or xs i 0 c.loop-node-test.true, edge)
         ])
       ];
-      journaled = journaled_on c.args.kept.now c.loop-node.kept c.clear.new.kept c.args.journal.now.items c.loop-node.journal.items c.clear.new.journal.items
+      journaled = journaled_on c.args.wait_states.now c.loop-node.wait_states c.clear.new.wait_states c.args.journal.now.items c.loop-node.journal.items c.clear.new.journal.items
           c.loop-node.invariant.journaled c.in_ok-clear.ensures.journaled;
     }
 
 pub settle-requires-clause-begun : goal.settle-requires-clause-begun
 settle-requires-clause-begun g c =
     let inv = c.loop-node.invariant in
-    to_settle c.args.graph.now c.requires.rerun.0 (g.R.Rules.listed c.args.rules.now) c.args.reached.now c.requires.rerun.2 c.requires.graph c.args.kept.now c.loop-node.kept inv.gone c.requires.rerun.1
+    to_settle c.args.graph.now c.requires.rerun.0 (g.R.Rules.listed c.args.rules.now) c.args.reached.now c.requires.rerun.2 c.requires.graph c.args.wait_states.now c.loop-node.wait_states inv.gone c.requires.rerun.1
     (λ n. (
       inv.among n,
       λ has. elim (inv.covered n has) [
@@ -70,7 +70,7 @@ pub returns-clause-most : goal.returns-clause-most
 returns-clause-most g c =
     let inv = c.loop-node.invariant in
     let cleared = λ (followers : List ℕ) (hold : HoldFollowers c.args.graph.now c.args.reached.now followers).
-    waiting_cleared c.args.graph.now c.requires.rerun.0 (g.R.Rules.listed c.args.rules.now) c.args.reached.now c.requires.rerun.2 c.args.kept.now c.loop-node.kept inv.gone followers c.requires.rerun.1
+    waiting_cleared c.args.graph.now c.requires.rerun.0 (g.R.Rules.listed c.args.rules.now) c.args.reached.now c.requires.rerun.2 c.args.wait_states.now c.loop-node.wait_states inv.gone followers c.requires.rerun.1
     (λ n. (
       inv.among n,
       λ has. elim (inv.covered n has) [
@@ -84,9 +84,9 @@ returns-clause-most g c =
 pub returns-clause-places : goal.returns-clause-places
 returns-clause-places g c =
     let inv = c.loop-node.invariant in
-    on_ok_weaker c.settle.result (λ settled. around c.args.graph.now c.requires.rerun.0 c.args.reached.now c.args.kept.now c.loop-node.kept c.settle.new.kept inv.gone c.args.journal.now.items c.loop-node.journal.items c.settle.new.journal.items
+    on_ok_weaker c.settle.result (λ settled. around c.args.graph.now c.requires.rerun.0 c.args.reached.now c.args.wait_states.now c.loop-node.wait_states c.settle.new.wait_states inv.gone c.args.journal.now.items c.loop-node.journal.items c.settle.new.journal.items
     c.requires.rerun.1 inv.clearing inv.among inv.places settled) c.settle.ensures.places
 
 pub returns-clause-journaled : goal.returns-clause-journaled
-returns-clause-journaled g c = journaled_on c.args.kept.now c.loop-node.kept c.settle.new.kept c.args.journal.now.items c.loop-node.journal.items c.settle.new.journal.items
+returns-clause-journaled g c = journaled_on c.args.wait_states.now c.loop-node.wait_states c.settle.new.wait_states c.args.journal.now.items c.loop-node.journal.items c.settle.new.journal.items
     c.loop-node.invariant.journaled c.settle.ensures.journaled

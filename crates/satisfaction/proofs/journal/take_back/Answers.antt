@@ -5,15 +5,15 @@ use Rattle.satisfaction.proofs.journal.take_back.Goals as goal
 
 pub put-requires : goal.put-requires
 put-requires c =
-    let all = subst (λ js. AreWithin (length c.args.kept.now) js) c.in-Some.ensures.items c.loop-node.invariant.within in
-    omega (arith, c.loop-node.invariant.size, within_last (length c.args.kept.now) c.pop.new.self.items (c.in-Some.node, c.in-Some.old) all)
+    let all = subst (λ js. AreWithin (length c.args.wait_states.now) js) c.in-Some.ensures.items c.loop-node.invariant.within in
+    omega (arith, c.loop-node.invariant.size, within_last (length c.args.wait_states.now) c.pop.new.self.items (c.in-Some.node, c.in-Some.old) all)
 
 pub loop-node-preserved : goal.loop-node-preserved
 loop-node-preserved c =
     let left = c.pop.new.self.items in
-    let all = subst (λ js. AreWithin (length c.args.kept.now) js) c.in-Some.ensures.items c.loop-node.invariant.within in
+    let all = subst (λ js. AreWithin (length c.args.wait_states.now) js) c.in-Some.ensures.items c.loop-node.invariant.within in
     record {
-      size = ap length c.put.ensures ∙ length-set c.loop-node.kept c.in-Some.node c.in-Some.old ∙ c.loop-node.invariant.size;
-      within = within_left (length c.args.kept.now) left (c.in-Some.node, c.in-Some.old) all;
-      back = ap (undone left) c.put.ensures ∙ sym (undone_last left (c.in-Some.node, c.in-Some.old) c.loop-node.kept) ∙ ap (λ js. undone js c.loop-node.kept) (sym c.in-Some.ensures.items) ∙ c.loop-node.invariant.back;
+      size = ap length c.put.ensures ∙ length-set c.loop-node.wait_states c.in-Some.node c.in-Some.old ∙ c.loop-node.invariant.size;
+      within = within_left (length c.args.wait_states.now) left (c.in-Some.node, c.in-Some.old) all;
+      back = ap (undone left) c.put.ensures ∙ sym (undone_last left (c.in-Some.node, c.in-Some.old) c.loop-node.wait_states) ∙ ap (λ js. undone js c.loop-node.wait_states) (sym c.in-Some.ensures.items) ∙ c.loop-node.invariant.back;
     }

@@ -4,9 +4,9 @@ use Rattle.satisfaction.proofs.journal.take_back.Given as goal
 
 abbrev pub invariant-loop-node : goal.invariant-loop-node
 invariant-loop-node l = record {
-  size : length l.kept ≡ length l.fn.kept;
-  within : AreWithin (length l.fn.kept) l.journal.items;
-  back : undone l.journal.items l.kept ≡ undone l.fn.journal.items l.fn.kept;
+  size : length l.wait_states ≡ length l.fn.wait_states;
+  within : AreWithin (length l.fn.wait_states) l.journal.items;
+  back : undone l.journal.items l.wait_states ≡ undone l.fn.journal.items l.fn.wait_states;
 }
 
 abbrev pub decreases-loop-node : goal.decreases-loop-node

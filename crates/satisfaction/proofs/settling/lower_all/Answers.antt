@@ -11,7 +11,7 @@ pub lower-requires-clause-node : goal.lower-requires-clause-node
 lower-requires-clause-node g c =
     let nodes = c.args.nodes.now in
     let i = c.loop-node.node-index in
-    let h = subst (λ xs. IsCascade c.requires.cascade.0 (g.R.Rules.listed c.args.rules.now) [] c.loop-node.kept c.loop-node.work.items xs) (drop_more nodes i 0 c.loop-node-test.true)
+    let h = subst (λ xs. IsCascade c.requires.cascade.0 (g.R.Rules.listed c.args.rules.now) [] c.loop-node.wait_states c.loop-node.work.items xs) (drop_more nodes i 0 c.loop-node-test.true)
     (c.loop-node.invariant.step c.requires.cascade.0 c.requires.cascade.1 c.requires.cascade.2) in
     omega (arith, h.size, h.rest_within (get_or nodes i 0) (contains_head (get_or nodes i 0) (drop (i + 1) nodes)))
 
@@ -20,13 +20,13 @@ lower-requires-clause-waits g c =
     let nodes = c.args.nodes.now in
     let i = c.loop-node.node-index in
     let s = get_or nodes i 0 in
-    let h = subst (λ xs. IsCascade c.requires.cascade.0 (g.R.Rules.listed c.args.rules.now) [] c.loop-node.kept c.loop-node.work.items xs) (drop_more nodes i 0 c.loop-node-test.true)
+    let h = subst (λ xs. IsCascade c.requires.cascade.0 (g.R.Rules.listed c.args.rules.now) [] c.loop-node.wait_states c.loop-node.work.items xs) (drop_more nodes i 0 c.loop-node-test.true)
     (c.loop-node.invariant.step c.requires.cascade.0 c.requires.cascade.1 c.requires.cascade.2) in
     let in_g = h.rest_within s (contains_head s (drop (i + 1) nodes)) in
     omega (arith, h.counts s in_g, count_head s s (drop (i + 1) nodes) refl)
 
 pub returns-in_err-lower-clause-journaled : goal.returns-in_err-lower-clause-journaled
-returns-in_err-lower-clause-journaled g c = journaled_on c.args.kept.now c.loop-node.kept c.lower.new.kept c.args.journal.now.items c.loop-node.journal.items c.lower.new.journal.items
+returns-in_err-lower-clause-journaled g c = journaled_on c.args.wait_states.now c.loop-node.wait_states c.lower.new.wait_states c.args.journal.now.items c.loop-node.journal.items c.lower.new.journal.items
     c.loop-node.invariant.journaled c.in_err-lower.ensures.journaled
 
 pub loop-node-preserved : goal.loop-node-preserved
@@ -38,17 +38,17 @@ loop-node-preserved g c =
       fewest = omega (arith, c.in_ok-lower.ensures.fewest, c.loop-node.invariant.fewest);
       most = omega (arith, c.in_ok-lower.ensures.most, c.loop-node.invariant.most);
       rules = c.in_ok-lower.ensures.rules ∙ c.loop-node.invariant.rules;
-      step = λ d graph h. subst (λ rules. IsCascade d rules [] c.lower.new.kept c.lower.new.work.items (drop (i + 1) nodes)) c.loop-node.invariant.rules
+      step = λ d graph h. subst (λ rules. IsCascade d rules [] c.lower.new.wait_states c.lower.new.work.items (drop (i + 1) nodes)) c.loop-node.invariant.rules
           (c.in_ok-lower.ensures.step d (drop (i + 1) nodes) graph
-          (subst (λ rules. IsCascade d rules [] c.loop-node.kept c.loop-node.work.items (get_or nodes i 0 ∷ drop (i + 1) nodes)) (sym c.loop-node.invariant.rules)
-          (subst (λ xs. IsCascade d (g.R.Rules.listed c.args.rules.now) [] c.loop-node.kept c.loop-node.work.items xs) (drop_more nodes i 0 c.loop-node-test.true) (c.loop-node.invariant.step d graph h))));
+          (subst (λ rules. IsCascade d rules [] c.loop-node.wait_states c.loop-node.work.items (get_or nodes i 0 ∷ drop (i + 1) nodes)) (sym c.loop-node.invariant.rules)
+          (subst (λ xs. IsCascade d (g.R.Rules.listed c.args.rules.now) [] c.loop-node.wait_states c.loop-node.work.items xs) (drop_more nodes i 0 c.loop-node-test.true) (c.loop-node.invariant.step d graph h))));
       nearer = omega (arith, c.in_ok-lower.ensures.nearer, c.loop-node.invariant.nearer);
-      places = lowered_on [] c.args.kept.now c.loop-node.kept c.lower.new.kept c.args.journal.now.items c.loop-node.journal.items c.lower.new.journal.items
+      places = lowered_on [] c.args.wait_states.now c.loop-node.wait_states c.lower.new.wait_states c.args.journal.now.items c.loop-node.journal.items c.lower.new.journal.items
           c.loop-node.invariant.places c.in_ok-lower.ensures.places;
-      journaled = journaled_on c.args.kept.now c.loop-node.kept c.lower.new.kept c.args.journal.now.items c.loop-node.journal.items c.lower.new.journal.items
+      journaled = journaled_on c.args.wait_states.now c.loop-node.wait_states c.lower.new.wait_states c.args.journal.now.items c.loop-node.journal.items c.lower.new.journal.items
           c.loop-node.invariant.journaled c.in_ok-lower.ensures.journaled;
     }
 
 pub returns-clause-step : goal.returns-clause-step
-returns-clause-step g c d graph h = subst (λ xs. IsCascade d (g.R.Rules.listed c.args.rules.now) [] c.loop-node.kept c.loop-node.work.items xs)
+returns-clause-step g c d graph h = subst (λ xs. IsCascade d (g.R.Rules.listed c.args.rules.now) [] c.loop-node.wait_states c.loop-node.work.items xs)
     (drop_all c.loop-node.node-index c.args.nodes.now c.loop-node-test.false) (c.loop-node.invariant.step d graph h)

@@ -11,10 +11,10 @@ invariant-loop-node g l =
     record {
       source : g.R.Rules.source l.rules ≡ g.R.Rules.source l.fn.rules;
       fewest : g.R.Rules.looks l.fn.rules ≤ g.R.Rules.looks l.rules;
-      most : g.R.Rules.looks l.rules + waiting_count l.kept ≤ g.R.Rules.looks l.fn.rules + waiting_count l.fn.kept;
+      most : g.R.Rules.looks l.rules + waiting_count l.wait_states ≤ g.R.Rules.looks l.fn.rules + waiting_count l.fn.wait_states;
       rules : listed l.rules ≡ listed l.fn.rules;
-      step : (d : Digraph) → IsGraph d → IsCascade d (listed l.fn.rules) [] l.fn.kept l.fn.work.items l.nodes → IsCascade d (listed l.fn.rules) [] l.kept l.work.items (drop l.node-index l.nodes);
-      nearer : 2 * unsatisfied_count l.kept + vec_len l.work ≤ 2 * unsatisfied_count l.fn.kept + vec_len l.fn.work;
-      places : IsLowering [] l.fn.kept l.fn.journal.items l.kept l.journal.items;
-      journaled : IsJournaled l.fn.kept l.fn.journal.items l.kept l.journal.items;
+      step : (d : Digraph) → IsGraph d → IsCascade d (listed l.fn.rules) [] l.fn.wait_states l.fn.work.items l.nodes → IsCascade d (listed l.fn.rules) [] l.wait_states l.work.items (drop l.node-index l.nodes);
+      nearer : 2 * unsatisfied_count l.wait_states + vec_len l.work ≤ 2 * unsatisfied_count l.fn.wait_states + vec_len l.fn.work;
+      places : IsLowering [] l.fn.wait_states l.fn.journal.items l.wait_states l.journal.items;
+      journaled : IsJournaled l.fn.wait_states l.fn.journal.items l.wait_states l.journal.items;
     }

@@ -11,8 +11,8 @@ invariant-loop-node g l =
       rules : listed l.rules ≡ listed l.fn.rules;
       source : g.R.Rules.source l.rules ≡ g.R.Rules.source l.fn.rules;
       fewest : g.R.Rules.looks l.fn.rules ≤ g.R.Rules.looks l.rules;
-      most : g.R.Rules.looks l.rules + waiting_count l.kept ≤ g.R.Rules.looks l.fn.rules + l.node-index + waiting_count l.fn.kept;
-      cascade : IsCascade l.graph (listed l.fn.rules) (drop l.node-index l.changed) l.kept l.work.items [];
-      places : IsLowering l.changed l.fn.kept l.fn.journal.items l.kept l.journal.items;
-      journaled : IsJournaled l.fn.kept l.fn.journal.items l.kept l.journal.items;
+      most : g.R.Rules.looks l.rules + waiting_count l.wait_states ≤ g.R.Rules.looks l.fn.rules + l.node-index + waiting_count l.fn.wait_states;
+      cascade : IsCascade l.graph (listed l.fn.rules) (drop l.node-index l.changed) l.wait_states l.work.items [];
+      places : IsLowering l.changed l.fn.wait_states l.fn.journal.items l.wait_states l.journal.items;
+      journaled : IsJournaled l.fn.wait_states l.fn.journal.items l.wait_states l.journal.items;
     }

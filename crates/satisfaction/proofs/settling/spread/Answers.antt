@@ -15,9 +15,9 @@ pub lower_all-requires-clause-cascade : goal.lower_all-requires-clause-cascade
 lower_all-requires-clause-cascade g c = (
   c.args.graph.now,
   c.requires.graph,
-  subst (λ rules. IsCascade c.args.graph.now rules [] c.loop-node.kept c.pop.new.self.items c.succs.result.now) (sym c.loop-node.invariant.rules)
-      (taken_up c.args.graph.now (g.R.Rules.listed c.args.rules.now) c.requires.graph [] c.loop-node.kept c.pop.new.self.items c.in-Some.node c.succs.result.now c.succs.ensures.succs
-      (subst (λ xs. IsCascade c.args.graph.now (g.R.Rules.listed c.args.rules.now) [] c.loop-node.kept xs []) c.in-Some.ensures.items c.loop-node.invariant.cascade)),
+  subst (λ rules. IsCascade c.args.graph.now rules [] c.loop-node.wait_states c.pop.new.self.items c.succs.result.now) (sym c.loop-node.invariant.rules)
+      (taken_up c.args.graph.now (g.R.Rules.listed c.args.rules.now) c.requires.graph [] c.loop-node.wait_states c.pop.new.self.items c.in-Some.node c.succs.result.now c.succs.ensures.succs
+      (subst (λ xs. IsCascade c.args.graph.now (g.R.Rules.listed c.args.rules.now) [] c.loop-node.wait_states xs []) c.in-Some.ensures.items c.loop-node.invariant.cascade)),
 )
 
 pub loop-node-preserved : goal.loop-node-preserved
@@ -26,23 +26,23 @@ loop-node-preserved g c = record {
   fewest = omega (arith, c.in_ok-lower_all.ensures.fewest, c.loop-node.invariant.fewest);
   most = omega (arith, c.in_ok-lower_all.ensures.most, c.loop-node.invariant.most);
   rules = c.in_ok-lower_all.ensures.rules ∙ c.loop-node.invariant.rules;
-  cascade = subst (λ rules. IsCascade c.args.graph.now rules [] c.lower_all.new.kept c.lower_all.new.work.items []) c.loop-node.invariant.rules
+  cascade = subst (λ rules. IsCascade c.args.graph.now rules [] c.lower_all.new.wait_states c.lower_all.new.work.items []) c.loop-node.invariant.rules
       (c.in_ok-lower_all.ensures.step c.args.graph.now c.requires.graph
-      (subst (λ rules. IsCascade c.args.graph.now rules [] c.loop-node.kept c.pop.new.self.items c.succs.result.now) (sym c.loop-node.invariant.rules)
-      (taken_up c.args.graph.now (g.R.Rules.listed c.args.rules.now) c.requires.graph [] c.loop-node.kept c.pop.new.self.items c.in-Some.node c.succs.result.now c.succs.ensures.succs
-      (subst (λ xs. IsCascade c.args.graph.now (g.R.Rules.listed c.args.rules.now) [] c.loop-node.kept xs []) c.in-Some.ensures.items c.loop-node.invariant.cascade))));
-  places = lowered_on [] c.args.kept.now c.loop-node.kept c.lower_all.new.kept c.args.journal.now.items c.loop-node.journal.items c.lower_all.new.journal.items
+      (subst (λ rules. IsCascade c.args.graph.now rules [] c.loop-node.wait_states c.pop.new.self.items c.succs.result.now) (sym c.loop-node.invariant.rules)
+      (taken_up c.args.graph.now (g.R.Rules.listed c.args.rules.now) c.requires.graph [] c.loop-node.wait_states c.pop.new.self.items c.in-Some.node c.succs.result.now c.succs.ensures.succs
+      (subst (λ xs. IsCascade c.args.graph.now (g.R.Rules.listed c.args.rules.now) [] c.loop-node.wait_states xs []) c.in-Some.ensures.items c.loop-node.invariant.cascade))));
+  places = lowered_on [] c.args.wait_states.now c.loop-node.wait_states c.lower_all.new.wait_states c.args.journal.now.items c.loop-node.journal.items c.lower_all.new.journal.items
       c.loop-node.invariant.places c.in_ok-lower_all.ensures.places;
-  journaled = journaled_on c.args.kept.now c.loop-node.kept c.lower_all.new.kept c.args.journal.now.items c.loop-node.journal.items c.lower_all.new.journal.items
+  journaled = journaled_on c.args.wait_states.now c.loop-node.wait_states c.lower_all.new.wait_states c.args.journal.now.items c.loop-node.journal.items c.lower_all.new.journal.items
       c.loop-node.invariant.journaled c.in_ok-lower_all.ensures.journaled;
 }
 
 pub returns-in_err-lower_all-clause-journaled : goal.returns-in_err-lower_all-clause-journaled
-returns-in_err-lower_all-clause-journaled g c = journaled_on c.args.kept.now c.loop-node.kept c.lower_all.new.kept c.args.journal.now.items c.loop-node.journal.items c.lower_all.new.journal.items
+returns-in_err-lower_all-clause-journaled g c = journaled_on c.args.wait_states.now c.loop-node.wait_states c.lower_all.new.wait_states c.args.journal.now.items c.loop-node.journal.items c.lower_all.new.journal.items
     c.loop-node.invariant.journaled c.in_err-lower_all.ensures.journaled
 
 pub returns-clause-right : goal.returns-clause-right
 returns-clause-right g c =
     let none : c.loop-node.work.items ≡ [] = nil_from_length c.loop-node.work.items (omega (arith, c.in_default.ensures.cases, c.loop-node.work.ok.0)) in
-    settled c.args.graph.now (g.R.Rules.listed c.args.rules.now) c.requires.graph c.loop-node.kept
-    (subst (λ xs. IsCascade c.args.graph.now (g.R.Rules.listed c.args.rules.now) [] c.loop-node.kept xs []) none c.loop-node.invariant.cascade)
+    settled c.args.graph.now (g.R.Rules.listed c.args.rules.now) c.requires.graph c.loop-node.wait_states
+    (subst (λ xs. IsCascade c.args.graph.now (g.R.Rules.listed c.args.rules.now) [] c.loop-node.wait_states xs []) none c.loop-node.invariant.cascade)

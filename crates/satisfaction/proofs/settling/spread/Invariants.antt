@@ -10,12 +10,12 @@ invariant-loop-node g l =
     record {
       source : g.R.Rules.source l.rules ≡ g.R.Rules.source l.fn.rules;
       fewest : g.R.Rules.looks l.fn.rules ≤ g.R.Rules.looks l.rules;
-      most : g.R.Rules.looks l.rules + waiting_count l.kept ≤ g.R.Rules.looks l.fn.rules + waiting_count l.fn.kept;
+      most : g.R.Rules.looks l.rules + waiting_count l.wait_states ≤ g.R.Rules.looks l.fn.rules + waiting_count l.fn.wait_states;
       rules : listed l.rules ≡ listed l.fn.rules;
-      cascade : IsCascade l.graph (listed l.fn.rules) [] l.kept l.work.items [];
-      places : IsLowering [] l.fn.kept l.fn.journal.items l.kept l.journal.items;
-      journaled : IsJournaled l.fn.kept l.fn.journal.items l.kept l.journal.items;
+      cascade : IsCascade l.graph (listed l.fn.rules) [] l.wait_states l.work.items [];
+      places : IsLowering [] l.fn.wait_states l.fn.journal.items l.wait_states l.journal.items;
+      journaled : IsJournaled l.fn.wait_states l.fn.journal.items l.wait_states l.journal.items;
     }
 
 abbrev pub decreases-loop-node : goal.decreases-loop-node
-decreases-loop-node g l = 2 * unsatisfied_count l.kept + vec_len l.work
+decreases-loop-node g l = 2 * unsatisfied_count l.wait_states + vec_len l.work

@@ -14,8 +14,8 @@ use Rattle.small_requests.proofs.ColumnParts.{kept_alike}
 use Rattle.small_requests.proofs.Overwritten.{vector_unchanged}
 use Rattle.small_requests.proofs.StepParts.{all_below}
 use Rattle.small_requests.proofs.groundwork.groundwork_of.Goals as goal
-use Rattle.small_requests.proofs.groundwork.groundwork_of.Goals.{After-beside, After-recount}
-use Rattle.small_requests.specs.Columns.{AreSizedBy, IsExcerptOf}
+use Rattle.small_requests.proofs.groundwork.groundwork_of.Goals.{After-uncounted, After-recount}
+use Rattle.small_requests.specs.Columns.{AreSizedBy, IsSnapshotOf}
 use Rattle.small_requests.specs.Edits.{IsKeptBefore}
 use Rattle.small_requests.specs.Groundworks.{IsCounted, IsMovedOn}
 use Rattle.plan_checks.specs.derived_figures.specs.TakingsBefore.{HasPlanBefore}
@@ -24,12 +24,12 @@ pub recount-requires : goal.recount-requires
 recount-requires c =
     let was = c.requires.3 in (
       c.requires.0,
-      subst (IsKeptBefore c.requires.0 c.args.shown.now.contents c.args.edit.now c.args.graph.now) (sym c.deref_mut.ensures.value) (record { edit = was.edit; graph = was.graph; kept = was.figures.kept }),
+      subst (IsKeptBefore c.requires.0 c.args.shown.now.contents c.args.edit.now c.args.graph.now) (sym c.deref_mut.ensures.value) (record { edit = was.edit; graph = was.graph; wait_states = was.figures.wait_states }),
     )
 
 -- what is kept is as it was
-kept_back : (c : After-recount) → (with_items c.args.columns.now.kept c.recount.new.kept).items ≡ c.args.columns.now.kept.items
-kept_back c = vector_unchanged c.args.columns.now.kept c.deref_mut.result.now c.recount.new.kept c.deref_mut.ensures.value c.recount.ensures.unchanged
+kept_back : (c : After-recount) → (with_items c.args.columns.now.wait_states c.recount.new.wait_states).items ≡ c.args.columns.now.wait_states.items
+kept_back c = vector_unchanged c.args.columns.now.wait_states c.deref_mut.result.now c.recount.new.wait_states c.deref_mut.ensures.value c.recount.ensures.unchanged
 
 pub retake-requires-clause-ascending : goal.retake-requires-clause-ascending
 retake-requires-clause-ascending c = subst (IsStrictlySortedBy nat_cmp) (sym c.deref.ensures.value) c.requires.3.edit.ascend
@@ -43,7 +43,7 @@ pub retake-requires-clause-before : goal.retake-requires-clause-before
 retake-requires-clause-before c =
     let P = c.requires.0 in
     let was = c.requires.3 in
-    let held = c.args.shares.now.holdings.held in
+    let held = c.args.allocations.now.holdings.held in
     subst (λ (R : Contents). HasPlanBefore R c.deref.result.now c.deref-2.result.now c.deref_mut-2.result.now held) (sym c.recount.ensures.contents)
     (subst (λ ps. HasPlanBefore c.args.shown.now.contents ps c.deref-2.result.now c.deref_mut-2.result.now held) (sym c.deref.ensures.value)
     (subst (λ ms. HasPlanBefore c.args.shown.now.contents c.args.edit.now.places.items ms c.deref_mut-2.result.now held) (sym c.deref-2.ensures.value)
@@ -51,39 +51,39 @@ retake-requires-clause-before c =
     (record { plan = P; valid = was.sound.valid; moved = was.edit.moved; marked = was.edit.marked; are_given = was.figures.given; are_held = was.figures.holders }))))
 
 -- what is shown then holds the same
-same_shown : (c : After-beside) → c.beside.result.contents.now ≡ c.args.shown.now.contents
-same_shown c = c.beside.ensures.contents ∙ c.in_ok-retake.ensures.contents ∙ c.recount.ensures.contents
+same_shown : (c : After-uncounted) → c.uncounted.result.contents.now ≡ c.args.shown.now.contents
+same_shown c = c.uncounted.ensures.contents ∙ c.in_ok-retake.ensures.contents ∙ c.recount.ensures.contents
 
-pub excerpt_of-requires-clause-sized : goal.excerpt_of-requires-clause-sized
-excerpt_of-requires-clause-sized c =
-    let k : After-recount = (goal.at.excerpt_of-requires-clause-sized c).After-recount in
-    let b : After-beside = (goal.at.excerpt_of-requires-clause-sized c).After-beside in
+pub snapshot_of-requires-clause-sized : goal.snapshot_of-requires-clause-sized
+snapshot_of-requires-clause-sized c =
+    let k : After-recount = (goal.at.snapshot_of-requires-clause-sized c).After-recount in
+    let b : After-uncounted = (goal.at.snapshot_of-requires-clause-sized c).After-uncounted in
     let was = c.requires.3 in
     let moved = was.edit.moved in
-    subst (λ (Q : Contents). AreSizedBy Q (record c.args.columns.now { kept = with_items c.args.columns.now.kept c.recount.new.kept })) (sym (same_shown b)) (record {
-      kept = ap length (kept_back k) ∙ was.figures.kept.size ∙ sym moved.size;
+    subst (λ (Q : Contents). AreSizedBy Q (record c.args.columns.now { wait_states = with_items c.args.columns.now.wait_states c.recount.new.wait_states })) (sym (same_shown b)) (record {
+      wait_states = ap length (kept_back k) ∙ was.figures.wait_states.size ∙ sym moved.size;
       standings = was.figures.standings.size ∙ sym moved.size;
       statuses = was.figures.statuses.size ∙ sym moved.size;
       tallies = was.figures.tallies.size ∙ ap (λ cs. length (entries cs)) (sym moved.occurrences);
     })
 
-pub excerpt_of-requires-clause-within : goal.excerpt_of-requires-clause-within
-excerpt_of-requires-clause-within c =
-    let b : After-beside = (goal.at.excerpt_of-requires-clause-within c).After-beside in
-    let n = length (entries c.beside.result.contents.now.operations) in
+pub snapshot_of-requires-clause-within : goal.snapshot_of-requires-clause-within
+snapshot_of-requires-clause-within c =
+    let b : After-uncounted = (goal.at.snapshot_of-requires-clause-within c).After-uncounted in
+    let n = length (entries c.uncounted.result.contents.now.operations) in
     subst (All (λ i. i < n)) (sym c.deref-3.ensures.value) (all_below n c.in_ok-touched.field-0.touched.items (λ i has.
     subst (λ (Q : Contents). i < length (entries Q.operations)) (sym (same_shown b)) (c.in_ok-touched.ensures.kept_then.touched.within i has)))
 
 pub returns-clause-groundwork : goal.returns-clause-groundwork
 returns-clause-groundwork c =
     let k : After-recount = (goal.at.returns-clause-groundwork c).After-recount in
-    let b : After-beside = (goal.at.returns-clause-groundwork c).After-beside in
+    let b : After-uncounted = (goal.at.returns-clause-groundwork c).After-uncounted in
     let Q = c.args.shown.now.contents in
     let touched = c.in_ok-touched.field-0.touched.items in
     record {
-      moved_on = subst (IsMovedOn Q c.args.edit.now.places.items touched c.in_ok-touched.field-0.kept.items) (c.deref_mut.ensures.value ∙ sym (kept_back k)) c.in_ok-touched.ensures.kept_then;
-      old = subst (λ ps. IsExcerptOf Q ps (record c.args.columns.now { kept = with_items c.args.columns.now.kept c.recount.new.kept }) c.in_ok-old.old) c.deref-3.ensures.value
-          (subst (λ (R : Contents). IsExcerptOf R c.deref-3.result.now (record c.args.columns.now { kept = with_items c.args.columns.now.kept c.recount.new.kept }) c.in_ok-old.old) (same_shown b) c.in_ok-old.ensures);
+      moved_on = subst (IsMovedOn Q c.args.edit.now.places.items touched c.in_ok-touched.field-0.wait_states.items) (c.deref_mut.ensures.value ∙ sym (kept_back k)) c.in_ok-touched.ensures.kept_then;
+      old = subst (λ ps. IsSnapshotOf Q ps (record c.args.columns.now { wait_states = with_items c.args.columns.now.wait_states c.recount.new.wait_states }) c.in_ok-old.old) c.deref-3.ensures.value
+          (subst (λ (R : Contents). IsSnapshotOf R c.deref-3.result.now (record c.args.columns.now { wait_states = with_items c.args.columns.now.wait_states c.recount.new.wait_states }) c.in_ok-old.old) (same_shown b) c.in_ok-old.ensures);
     }
 
 pub returns-clause-counted : goal.returns-clause-counted
@@ -92,8 +92,8 @@ returns-clause-counted c =
     let Q = c.args.shown.now.contents in
     let e = c.args.edit.now in
     let touched = c.in_ok-touched.field-0.touched.items in
-    let values = c.in_ok-touched.field-0.kept.items in
-    let same : c.deref_mut.result.now ≡ (with_items c.args.columns.now.kept c.recount.new.kept).items = c.deref_mut.ensures.value ∙ sym (kept_back k) in
+    let values = c.in_ok-touched.field-0.wait_states.items in
+    let same : c.deref_mut.result.now ≡ (with_items c.args.columns.now.wait_states c.recount.new.wait_states).items = c.deref_mut.ensures.value ∙ sym (kept_back k) in
     let counted = subst (λ ks. IsCounted Q e 1 ks (overwritten values ks) touched c.args.shown.now.looks c.recount.new.shown.looks) same c.in_ok-touched.ensures.counted in
     counted_twice Q e _ _ touched c.args.shown.now.looks c.recount.new.shown.looks c.retake.new.shown.looks counted
     (subst (λ ps. c.retake.new.shown.looks ≤ c.recount.new.shown.looks + length ps) c.deref.ensures.value c.in_ok-retake.ensures.most)
@@ -101,14 +101,14 @@ returns-clause-counted c =
 pub returns-clause-unchanged : goal.returns-clause-unchanged
 returns-clause-unchanged c =
     let k : After-recount = (goal.at.returns-clause-unchanged c).After-recount in
-    kept_alike c.args.columns.now (with_items c.args.columns.now.kept c.recount.new.kept) (kept_back k)
+    kept_alike c.args.columns.now (with_items c.args.columns.now.wait_states c.recount.new.wait_states) (kept_back k)
 
-pub returns-clause-shares : goal.returns-clause-shares
-returns-clause-shares c =
+pub returns-clause-allocations : goal.returns-clause-allocations
+returns-clause-allocations c =
     let P = c.requires.0 in
     let Q = c.args.shown.now.contents in
     let moved = c.requires.3.edit.moved in
-    let s = c.args.shares.now in
+    let s = c.args.allocations.now in
     let were = c.requires.3.figures.given in
     let retaken : AreGivenOut Q (entries Q.workstations) c.retake.new.given = subst (λ (R : Contents). AreGivenOut R (entries R.workstations) c.retake.new.given) c.recount.ensures.contents c.in_ok-retake.ensures.given in
     let open_at : length (entries Q.workstations) ≡ length (entries P.workstations) =

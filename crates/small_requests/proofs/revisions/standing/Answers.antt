@@ -11,7 +11,7 @@ returns-in-Available c =
     let P = c.args.shown.now.contents in
     let r = c.in-Available.name in
     let old = revision.Available r c.unwrap.result.available in
-    let h = puts_resource_back P r _ c.unwrap.result (sym (c.resource.ensures ∙ ap (λ (Q : Contents). get Q.resources r) c.beside.ensures.contents) ∙ c.unwrap.ensures) in
+    let h = puts_resource_back P r _ c.unwrap.result (sym (c.resource.ensures ∙ ap (λ (Q : Contents). get Q.resources r) c.uncounted.ensures.contents) ∙ c.unwrap.ensures) in
     subst (λ x. PutsBack P x old) (sym c.in-Available.is) h
 
 pub returns-in_ok-standing_workstation-in-Opened : goal.returns-in_ok-standing_workstation-in-Opened

@@ -1,5 +1,5 @@
 use Rattle.std.proofs.Common.{take}
-use Rattle.small_requests.specs.Following.{AreStatusesOnceNamed}
+use Rattle.small_requests.specs.Effects.{AreStatusesOnceNamed}
 use Rattle.small_requests.proofs.statuses.statuses_once_named.Given as goal
 
 -- the statuses of the places so far

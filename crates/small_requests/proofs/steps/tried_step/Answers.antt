@@ -6,17 +6,17 @@ use Rattle.plan_model.specs.Valid.{IsSound}
 use Rattle.plan_checks.specs.derived_figures.specs.Figures.{KeepsFrame}
 use Rattle.small_requests.specs.StepLooks.{IsStepLooked}
 use Rattle.plan_rows.specs.Notes.{operations_noted}
-use Rattle.small_requests.proofs.ColumnParts.{are_columns, are_figures, are_shares, is_list}
+use Rattle.small_requests.proofs.ColumnParts.{are_columns, are_figures, are_allocations, is_list}
 use Rattle.small_requests.proofs.steps.tried_step.Goals as goal
 use Rattle.small_requests.proofs.steps.tried_step.Goals.{After-with_revision-after}
 use Rattle.small_requests.specs.Columns.{figures_of}
-use Rattle.small_requests.specs.Shifts.{IsShift}
+use Rattle.small_requests.specs.FigureChanges.{IsFigureChange}
 use Rattle.small_requests.specs.Edits.{IsEditOf, WasEdited, edited}
 use Rattle.small_requests.specs.Naming.{AreStepNotes}
 use Rattle.small_requests.specs.Revisions.{HasPlaceFor, written}
 
-pub undo_of-requires-clause-shares : goal.undo_of-requires-clause-shares
-undo_of-requires-clause-shares c = are_shares c.args.shown.contents c.args.columns.now c.args.ready.now c.args.shares.now c.requires.figures
+pub undo_of-requires-clause-allocations : goal.undo_of-requires-clause-allocations
+undo_of-requires-clause-allocations c = are_allocations c.args.shown.contents c.args.columns.now c.args.ready.now c.args.allocations.now c.requires.figures
 
 pub with_revision-after-requires-clause-has_place : goal.with_revision-after-requires-clause-has_place
 with_revision-after-requires-clause-has_place c = subst (HasPlaceFor c.args.shown.contents) (sym c.in-Ok.ensures.forth) c.requires.edit.has_place
@@ -34,7 +34,7 @@ is_edited c =
     ∙ ap (λ x. written c.args.edit.now.keys.items x c.args.shown.contents) c.in-Ok.ensures.forth
 
 -- of which the edit was made
-was_edited : (c : After-with_revision-after) → WasEdited c.args.shown.contents c.with_revision-after.result.contents c.args.edit.now c.args.setting.now.graph.now c.args.setting.now.latest.now.starts (figures_of c.args.columns.now c.args.ready.now c.in-Ok.undo.shares)
+was_edited : (c : After-with_revision-after) → WasEdited c.args.shown.contents c.with_revision-after.result.contents c.args.edit.now c.args.context.now.graph.now c.args.context.now.latest.now.starts (figures_of c.args.columns.now c.args.ready.now c.in-Ok.undo.allocations)
 was_edited c =
     let P = c.args.shown.contents in
     let e = c.args.edit.now in
@@ -45,7 +45,7 @@ was_edited c =
       after = is_edited c;
       graph = c.requires.graph;
       latest = c.requires.latest;
-      figures = are_figures P c.args.columns.now c.args.ready.now c.in-Ok.undo.shares (are_columns P c.args.columns.now c.args.ready.now c.args.shares.now c.requires.figures) (is_list P c.args.columns.now c.args.ready.now c.args.shares.now c.requires.figures) c.in-Ok.ensures.shares;
+      figures = are_figures P c.args.columns.now c.args.ready.now c.in-Ok.undo.allocations (are_columns P c.args.columns.now c.args.ready.now c.args.allocations.now c.requires.figures) (is_list P c.args.columns.now c.args.ready.now c.args.allocations.now c.requires.figures) c.in-Ok.ensures.allocations;
     }
 
 pub step_after-same-requires : goal.step_after-same-requires
@@ -65,18 +65,18 @@ pub returns-in-Ok-clause-ready : goal.returns-in-Ok-clause-ready
 returns-in-Ok-clause-ready c = c.step_after-same.ensures.ready c.args.shown.contents (was_edited (goal.at.returns-in-Ok-clause-ready c).After-with_revision-after)
 
 pub returns-in-Err-clause-ready : goal.returns-in-Err-clause-ready
-returns-in-Err-clause-ready c = is_list c.args.shown.contents c.args.columns.now c.args.ready.now c.args.shares.now c.requires.figures
+returns-in-Err-clause-ready c = is_list c.args.shown.contents c.args.columns.now c.args.ready.now c.args.allocations.now c.requires.figures
 
 pub returns-in-Ok-clause-chosen : goal.returns-in-Ok-clause-chosen
 returns-in-Ok-clause-chosen c =
     let is = is_edited (goal.at.returns-in-Ok-clause-chosen c).After-with_revision-after in
-    subst (λ (Q : Contents). IfOk c.step_after-same.result.1 (λ s. IsChosen Q c.args.setting.now.at s.named.items)) is c.step_after-same.ensures.chosen
+    subst (λ (Q : Contents). IfOk c.step_after-same.result.1 (λ s. IsChosen Q c.args.context.now.at s.named.items)) is c.step_after-same.ensures.chosen
 
-pub returns-in-Ok-clause-shift : goal.returns-in-Ok-clause-shift
-returns-in-Ok-clause-shift c =
-    let here = (goal.at.returns-in-Ok-clause-shift c).After-with_revision-after in
+pub returns-in-Ok-clause-figure_change : goal.returns-in-Ok-clause-figure_change
+returns-in-Ok-clause-figure_change c =
+    let here = (goal.at.returns-in-Ok-clause-figure_change c).After-with_revision-after in
     let P = c.args.shown.contents in
-    if_ok c.step_after-same.result.1 (λ s shift. subst (λ (Q : Contents). IsShift P (named s.named.items Q) s.shift) (is_edited here) (shift P (was_edited here))) c.step_after-same.ensures.shift
+    if_ok c.step_after-same.result.1 (λ s figure_change. subst (λ (Q : Contents). IsFigureChange P (named s.named.items Q) s.figure_change) (is_edited here) (figure_change P (was_edited here))) c.step_after-same.ensures.figure_change
 
 pub returns-in-Ok-clause-frame : goal.returns-in-Ok-clause-frame
 returns-in-Ok-clause-frame c =

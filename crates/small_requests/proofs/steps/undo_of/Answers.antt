@@ -6,5 +6,5 @@ standing-requires c = c.requires.edit.has_place
 pub returns-clause-back : goal.returns-clause-back
 returns-clause-back c = c.in_ok-back.ensures
 
-pub returns-clause-shares : goal.returns-clause-shares
-returns-clause-shares c = c.in_ok-shares.ensures.shares c.args.shown.now.contents c.requires.shares
+pub returns-clause-allocations : goal.returns-clause-allocations
+returns-clause-allocations c = c.in_ok-allocations.ensures.allocations c.args.shown.now.contents c.requires.allocations

@@ -7,11 +7,11 @@ use Rattle.plan_model.specs.Ready.{IsChosen, named}
 use Rattle.plan_rows.specs.Notes.{operations_noted}
 use Rattle.small_requests.specs.Edits.{edited}
 use Rattle.small_requests.specs.Naming.{AreStepNotes}
-use Rattle.small_requests.specs.Shifts.{IsShift}
+use Rattle.small_requests.specs.FigureChanges.{IsFigureChange}
 use Rattle.small_requests.specs.StepLooks.{IsStepLooked}
 use Rattle.small_requests.specs.Trials.{IsStepBy, contents_then}
 use Rattle.small_requests.specs.declared.edits.Edit.{Edit}
-use Rattle.small_requests.specs.declared.following.SmallStep.{SmallStep}
+use Rattle.small_requests.specs.declared.named_steps.SmallStep.{SmallStep}
 use Rattle.small_requests.proofs.trials.small_trial.Goals as goal
 
 -- a step as it was made, of contents that are those of the plan
@@ -25,7 +25,7 @@ returns-in-Ok-step-clause-trial c =
     let step = c.small_step-shown.ensures in
     let same = c.edit_of.ensures.contents in
     let is = c.in-Ok-step.is in
-    let m = c.args.setting.now.at in
+    let m = c.args.context.now.at in
     let e = c.in-Ok.edit in
     let before = c.edit_of.new.shown.looks in
     let after = c.small_step-shown.result.0.looks in
@@ -33,7 +33,7 @@ returns-in-Ok-step-clause-trial c =
       edit = record { fits = edit.edit; legal = edit.legal; changes = edit.changes; worked = edit.worked; rerun = edit.rerun };
       step = record {
         chosen = at_plan same is m e (λ x s. IsChosen (edited e x) m s.named.items) step.chosen;
-        shift = at_plan same is m e (λ x s. IsShift x (contents_then x e s) s.shift) step.shift;
+        figure_change = at_plan same is m e (λ x s. IsFigureChange x (contents_then x e s) s.figure_change) step.figure_change;
         frame = at_plan same is m e (λ x s. KeepsFrame x (contents_then x e s)) step.frame;
         notes = at_plan same is m e (λ x s. AreStepNotes x (contents_then x e s) s.notes) step.notes;
       };

@@ -5,7 +5,7 @@ use Rattle.small_requests.proofs.values.occurrence_at.Goals as goal
 
 pub occurrence_place_of-requires : goal.occurrence_place_of-requires
 occurrence_place_of-requires c =
-    let P = c.args.beside.now.contents.now in
+    let P = c.args.uncounted.now.contents.now in
     let o = c.operation_key.result.now in
     let row = c.operation_key.ensures.key in
     some_is (get P.operations o) row.0 (row_found P c.args.place o row.0 row.1)

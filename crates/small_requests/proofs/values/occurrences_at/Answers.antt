@@ -8,13 +8,13 @@ use Rattle.small_requests.proofs.values.occurrences_at.Goals as goal
 
 pub loop-place-init : goal.loop-place-init
 loop-place-init c = record {
-  within = subst (All (λ p. p < length (entries c.args.beside.now.contents.now.occurrences))) (sym c.in_ok-all.ensures.items) (λ k d lt. absurd (omega (arith, lt)));
-  each = none_belong c.args.beside.now.contents.now c.in_ok-all.all.items;
+  within = subst (All (λ p. p < length (entries c.args.uncounted.now.contents.now.occurrences))) (sym c.in_ok-all.ensures.items) (λ k d lt. absurd (omega (arith, lt)));
+  each = none_belong c.args.uncounted.now.contents.now c.in_ok-all.all.items;
 }
 
 pub loop-place-preserved : goal.loop-place-preserved
 loop-place-preserved c =
-    let P = c.args.beside.now.contents.now in
+    let P = c.args.uncounted.now.contents.now in
     let places = c.args.places.now in
     let n = c.loop-place.place-index in
     rw (take_more places n 0 c.loop-place-test.true, c.in_ok-push.ensures.items) (record {
@@ -24,4 +24,4 @@ loop-place-preserved c =
 
 pub returns-clause-each : goal.returns-clause-each
 returns-clause-each c =
-    subst (λ ps. (p : ℕ) → HasOneOf c.args.beside.now.contents.now ps p → Contains c.loop-place.all.items p) (take_all c.loop-place.place-index c.args.places.now c.loop-place-test.false) c.loop-place.invariant.each
+    subst (λ ps. (p : ℕ) → HasOneOf c.args.uncounted.now.contents.now ps p → Contains c.loop-place.all.items p) (take_all c.loop-place.place-index c.args.places.now c.loop-place-test.false) c.loop-place.invariant.each

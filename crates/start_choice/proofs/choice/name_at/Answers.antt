@@ -23,8 +23,8 @@ before c = counted c.args.shown.now c.args.at c.args.given.now c.args.holdings.n
 found : (c : After-see) → get c.args.shown.now.contents.operations c.see.result.key.now ≡ Some c.see.result.operation.now
 found c = row_found c.args.shown.now.contents c.args.place c.see.result.key.now c.see.result.operation.now c.see.ensures.row
 
-found_beside : (c : After-see) → get c.see.result.beside.contents.now.operations c.see.result.key.now ≡ Some c.see.result.operation.now
-found_beside c = subst (λ (Q : Contents). get Q.operations c.see.result.key.now ≡ Some c.see.result.operation.now) (sym c.see.ensures.beside) (found c)
+found_beside : (c : After-see) → get c.see.result.uncounted.contents.now.operations c.see.result.key.now ≡ Some c.see.result.operation.now
+found_beside c = subst (λ (Q : Contents). get Q.operations c.see.result.key.now ≡ Some c.see.result.operation.now) (sym c.see.ensures.uncounted) (found c)
 
 -- and no other
 its_key : (c : After-see) (o : OpKey) (op : Operation) → slice_get (entries c.args.shown.now.contents.operations) c.args.place ≡ Some (o, op) → c.see.result.key.now ≡ o
@@ -41,10 +41,10 @@ module _ (c : After-check_start) where
   its_place : (ws : Workstation) × (slice_get (entries c.args.shown.now.contents.workstations) c.workstation_place_near-station.result ≡ Some (c.see.result.operation.now.workstation, ws))
   its_place =
       subst (λ (Q : Contents). (ws : Workstation) × (slice_get (entries Q.workstations) c.workstation_place_near-station.result ≡ Some (c.see.result.operation.now.workstation, ws)))
-      c.see.ensures.beside c.workstation_place_near-station.ensures.at
+      c.see.ensures.uncounted c.workstation_place_near-station.ensures.at
 
   within : c.workstation_place_near-station.result < length c.args.given.now
-  within = omega (arith, c.workstation_place_near-station.ensures.within, c.requires.shut.sized, ap (λ (Q : Contents). length (entries Q.workstations)) c.see.ensures.beside)
+  within = omega (arith, c.workstation_place_near-station.ensures.within, c.requires.shut.sized, ap (λ (Q : Contents). length (entries Q.workstations)) c.see.ensures.uncounted)
 
 -- the operation of this key can't start, where this counts
 abbrev Cannot : Counted → OpKey → Type 0
@@ -65,7 +65,7 @@ returns-then-is_err-clause-answered c e op at =
     record {
       cannot = λ its. subst (Cannot g) (its_key p e.key.op op at)
           (cannot_start g row station (its_place q).0 (its_place q).1 _ there key c.check_start.result (sym c.is_err.ensures.value ∙ c.if-is_err.true)
-          (checked_alike g row station (its_place q).0 (its_place q).1 _ there key c.see.result.beside.contents.now c.see.ensures.beside c.check_start.result (told.ok, told.line, told.refused)) (found p));
+          (checked_alike g row station (its_place q).0 (its_place q).1 _ there key c.see.result.uncounted.contents.now c.see.ensures.uncounted c.check_start.result (told.ok, told.line, told.refused)) (found p));
       same = ap (λ (Q : Contents). record { contents = Q; looks = after.looks; at = g.at; given = g.given; held = g.held }) one.contents;
       looks = (one.fewest, one.most);
     }
@@ -88,7 +88,7 @@ returns-clause-answered c e op at =
       in_plan = subst (λ (z : OpKey). get g.contents.operations z ≡ Some row) is (found p);
       can = subst (λ (z : OpKey). (P : Contents) → IsCountedIn g P → CanStart P z row g.at) is
           (can_start g row station (its_place q).0 (its_place q).1 _ there key c.check_start.result (sym c.is_err.ensures.value ∙ c.if-is_err.false)
-          (checked_alike g row station (its_place q).0 (its_place q).1 _ there key c.see.result.beside.contents.now c.see.ensures.beside c.check_start.result (told.ok, told.line, told.refused)));
+          (checked_alike g row station (its_place q).0 (its_place q).1 _ there key c.see.result.uncounted.contents.now c.see.ensures.uncounted c.check_start.result (told.ok, told.line, told.refused)));
       same = (one.contents, refl);
       looks = (one.fewest, one.most);
       given = record {
@@ -104,7 +104,7 @@ returns-clause-shut c =
     let rows = entries c.args.shown.now.contents.workstations in
     let station = c.workstation_place_near-station.result in
     let w = c.index-workstations-station.result in
-    let is = c.workstations.ensures.rows ∙ ap (λ (Q : Contents). entries Q.workstations) c.see.ensures.beside in
+    let is = c.workstations.ensures.rows ∙ ap (λ (Q : Contents). entries Q.workstations) c.see.ensures.uncounted in
     let within : station < length c.workstations.result.now = omega (arith, c.workstation_place_near-station.ensures.within, ap length c.workstations.ensures.rows) in
     subst (λ (Q : Contents). AreShut (entries Q.workstations) c.args.at (set c.args.given.now station c.with_operation-taken.result) (set c.args.shut.now station c.is_shut.result)) (sym c.see.follows.holds-at-none.contents)
     (told_one rows c.args.at c.args.given.now c.args.shut.now c.requires.shut station w (row_shown c.workstations.result.now rows is station w within c.index-workstations-station.is)

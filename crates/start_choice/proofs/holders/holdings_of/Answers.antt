@@ -4,14 +4,14 @@ use Rattle.std.proofs.lemmas.List.{take_all}
 use Rattle.std.proofs.lemmas.List.Sums.{count_by_more_no, count_by_more_yes, sum_by-take-le}
 use Rattle.plan_basics.specs.declared.keys.OpKey.{OpKey}
 use Rattle.special_resources.specs.Holdings.{HoldingState}
-use Rattle.counted_records.specs.plan_status.specs.Briefs.{IsBriefOf}
-use Rattle.counted_records.specs.plan_status.specs.declared.briefs.Brief.{Brief}
+use Rattle.counted_records.specs.plan_status.specs.Summaries.{IsSummaryOf}
+use Rattle.counted_records.specs.plan_status.specs.declared.summaries.OperationSummary.{OperationSummary}
 use Rattle.counted_records.specs.plan_drafts.proofs.RowPlaces.{row_at}
 use Rattle.plan_model.specs.Contents.{Contents, Operation}
-use Rattle.counted_records.specs.plan_status.proofs.Briefed.{brief_there}
+use Rattle.counted_records.specs.plan_status.proofs.Summarized.{summary_there}
 use Rattle.counted_records.specs.plan_status.proofs.RowKeys.{row_shown}
-use Rattle.start_choice.specs.BriefedTakings.{holder_count, may_hold}
-use Rattle.start_choice.proofs.BriefedHolders.{holds_nothing, known_there}
+use Rattle.start_choice.specs.SummarizedTakings.{holder_count, may_hold}
+use Rattle.start_choice.proofs.SummarizedHolders.{holds_nothing, known_there}
 use Rattle.start_choice.proofs.HeldRows.{AreHeldAmong, none_held, row_passed_over, row_takes, rows_held}
 use Rattle.start_choice.proofs.holders.holdings_of.Goals as goal
 use Rattle.start_choice.proofs.holders.holdings_of.Goals.{After-may_hold, then-may_hold+in_ok-take_at, else-may_hold}
@@ -21,11 +21,11 @@ module _ (c : After-may_hold) where
   row : (z : OpKey × Operation) × (slice_get (entries c.args.shown.now.contents.operations) c.loop-place.place ≡ Some z)
   row = row_at (entries c.args.shown.now.contents.operations) c.loop-place.place (omega (arith, c.loop-place-test.true, c.requires.size))
 
-  -- its operation's brief
-  its : IsBriefOf c.args.shown.now.contents row.0.1 c.index-briefs-place.result
+  -- its operation's summary
+  its : IsSummaryOf c.args.shown.now.contents row.0.1 c.index-summaries-place.result
   its =
-      brief_there c.args.shown.now.contents c.args.briefs.now c.requires c.loop-place.place row.0.0 row.0.1 c.index-briefs-place.result row.1
-      (row_shown c.args.briefs.now c.args.briefs.now refl c.loop-place.place c.index-briefs-place.result c.loop-place-test.true c.index-briefs-place.is)
+      summary_there c.args.shown.now.contents c.args.summaries.now c.requires c.loop-place.place row.0.0 row.0.1 c.index-summaries-place.result row.1
+      (row_shown c.args.summaries.now c.args.summaries.now refl c.loop-place.place c.index-summaries-place.result c.loop-place-test.true c.index-summaries-place.is)
 
 pub take_at-requires : goal.take_at-requires
 take_at-requires c =
@@ -43,10 +43,10 @@ pub loop-place-preserved : goal.loop-place-preserved
 loop-place-preserved c =
     let a : After-may_hold = (goal.at.loop-place-preserved c).After-may_hold in
     let P = c.args.shown.now.contents in
-    let briefs = c.args.briefs.now in
+    let summaries = c.args.summaries.now in
     let i = c.loop-place.place in
     let lt = c.loop-place-test.true in
-    let b = c.index-briefs-place.result in
+    let b = c.index-summaries-place.result in
     let o = (row a).0.0 in
     let op = (row a).0.1 in
     let invariant = c.loop-place.invariant in
@@ -54,7 +54,7 @@ loop-place-preserved c =
     elim c.if-may_hold.branch [
       | then-may_hold+in_ok-take_at w ↦
           let yes = sym c.may_hold.ensures ∙ w.if-may_hold.true in
-          let more = count_by_more_yes may_hold briefs i b lt (ap may_hold (sym c.index-briefs-place.is) ∙ yes) in
+          let more = count_by_more_yes may_hold summaries i b lt (ap may_hold (sym c.index-summaries-place.is) ∙ yes) in
           let at = ap (λ (Q : Contents). slice_get (entries Q.operations) i) invariant.contents ∙ (row a).1 in
           let taken = w.in_ok-take_at.ensures.taken o op at in
           rw (w.holdings-is, w.shown-is)
@@ -66,7 +66,7 @@ loop-place-preserved c =
           }
       | else-may_hold w ↦
           let no = sym c.may_hold.ensures ∙ w.if-may_hold.false in
-          let same = count_by_more_no may_hold briefs i b lt (ap may_hold (sym c.index-briefs-place.is) ∙ no) in
+          let same = count_by_more_no may_hold summaries i b lt (ap may_hold (sym c.index-summaries-place.is) ∙ no) in
           rw (w.holdings-is, w.shown-is)
           record {
             contents = invariant.contents;
@@ -84,15 +84,15 @@ returns-clause-held c =
 
 pub returns-clause-most : goal.returns-clause-most
 returns-clause-most c =
-    let all = ap holder_count (take_all c.loop-place.place c.args.briefs.now c.loop-place-test.false) in
+    let all = ap holder_count (take_all c.loop-place.place c.args.summaries.now c.loop-place-test.false) in
     omega (arith, c.loop-place.invariant.most, all)
 
 pub returns-in_err-take_at-clause-most : goal.returns-in_err-take_at-clause-most
 returns-in_err-take_at-clause-most c =
-    let briefs = c.args.briefs.now in
+    let summaries = c.args.summaries.now in
     let i = c.loop-place.place in
-    let b = c.index-briefs-place.result in
+    let b = c.index-summaries-place.result in
     let yes = sym c.may_hold.ensures ∙ c.if-may_hold.true in
-    let more = count_by_more_yes may_hold briefs i b c.loop-place-test.true (ap may_hold (sym c.index-briefs-place.is) ∙ yes) in
-    let all = sum_by-take-le (λ (x : Brief). cond (may_hold x) 1 0) briefs (i + 1) in
+    let more = count_by_more_yes may_hold summaries i b c.loop-place-test.true (ap may_hold (sym c.index-summaries-place.is) ∙ yes) in
+    let all = sum_by-take-le (λ (x : OperationSummary). cond (may_hold x) 1 0) summaries (i + 1) in
     omega (arith, c.loop-place.invariant.most, c.in_err-take_at.ensures.most, more, all)

@@ -1,5 +1,5 @@
 use Rattle.std.proofs.Common.{◌≡◌, ◌+◌, ◌≤◌, take}
-use Rattle.start_choice.specs.BriefedTakings.{holder_count}
+use Rattle.start_choice.specs.SummarizedTakings.{holder_count}
 use Rattle.start_choice.proofs.HeldRows.{AreHeldAmong}
 use Rattle.start_choice.proofs.holders.holdings_of.Given as goal
 
@@ -8,6 +8,6 @@ abbrev pub invariant-loop-place : goal.invariant-loop-place
 invariant-loop-place l = record {
   contents : l.shown.contents ≡ l.fn.shown.contents;
   fewest : l.fn.shown.looks ≤ l.shown.looks;
-  most : l.shown.looks ≤ l.fn.shown.looks + holder_count (take l.place l.briefs);
+  most : l.shown.looks ≤ l.fn.shown.looks + holder_count (take l.place l.summaries);
   held : AreHeldAmong l.fn.shown.contents l.place l.holdings.held;
 }

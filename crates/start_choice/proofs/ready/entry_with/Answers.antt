@@ -13,9 +13,9 @@ pub returns-clause-entry : goal.returns-clause-entry
 returns-clause-entry c =
     let fits : FitsSigned w64 c.args.latest = c.ranges.latest in
     let latest : to_z w64 (of_z w64 c.args.latest) ≡ c.args.latest = omega (arith, ints, fits) in
-    has_entry c.args.beside.now.contents.now c.args.key.now c.args.operation.now c.args.latest c.workstation_place_near.result c.args.place c.requires refl latest
+    has_entry c.args.uncounted.now.contents.now c.args.key.now c.args.operation.now c.args.latest c.workstation_place_near.result c.args.place c.requires refl latest
     (ap (λ (op : Operation). op.duration) c.operation.view_is)
     c.priority_of.ensures
     (ap (λ (op : Operation). op.workstation) c.operation.view_is)
     c.attribute_of.ensures
-    (key_of_row (entries c.args.beside.now.contents.now.workstations) c.workstation_place_near.result c.args.operation.now.workstation c.workstation_place_near.ensures.at.0 c.workstation_place_near.ensures.at.1)
+    (key_of_row (entries c.args.uncounted.now.contents.now.workstations) c.workstation_place_near.result c.args.operation.now.workstation c.workstation_place_near.ensures.at.0 c.workstation_place_near.ensures.at.1)

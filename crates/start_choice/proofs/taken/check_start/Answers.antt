@@ -14,16 +14,16 @@ use Rattle.start_choice.proofs.taken.check_start.Goals as goal
 use Rattle.start_choice.proofs.taken.check_start.Goals.{After-fits}
 
 pub unwrap-workstation-requires : goal.unwrap-workstation-requires
-unwrap-workstation-requires c = workplace_found c.args.seen.now.beside.contents.now c.workstation_near.ensures.sound.valid c.operation.view_is (c.args.seen.now.key.now, c.requires) c.workstation_near.result c.workstation_near.ensures.absent
+unwrap-workstation-requires c = workplace_found c.args.seen.now.uncounted.contents.now c.workstation_near.ensures.sound.valid c.operation.view_is (c.args.seen.now.key.now, c.requires) c.workstation_near.result c.workstation_near.ensures.absent
 
 module _ (c : After-fits) where
   abbrev workstation : Workstation
   workstation = c.unwrap-workstation.result.now.1
 
-  its_workstation : get c.args.seen.now.beside.contents.now.workstations c.args.seen.now.operation.now.workstation ≡ Some workstation
+  its_workstation : get c.args.seen.now.uncounted.contents.now.workstations c.args.seen.now.operation.now.workstation ≡ Some workstation
   its_workstation =
       let found = rw c.unwrap-workstation.ensures at c.workstation_near.ensures.found in
-      ap (λ (op : Operation). get c.args.seen.now.beside.contents.now.workstations op.workstation) (sym c.operation.view_is) ∙ found.1
+      ap (λ (op : Operation). get c.args.seen.now.uncounted.contents.now.workstations op.workstation) (sym c.operation.view_is) ∙ found.1
 
   same_needs : ◌≡◌ {A = ℕ × ℕ} (c.from.result, c.from-2.result) (c.args.seen.now.operation.now.r1, c.args.seen.now.operation.now.r2)
   same_needs = λ i. ((c.from.ensures ∙ ap (λ (op : Operation). op.r1) c.operation.view_is) i, (c.from-2.ensures ∙ ap (λ (op : Operation). op.r2) c.operation.view_is) i)
@@ -47,13 +47,13 @@ module _ (c : After-fits) where
     lacks : ¬ has_room (c.args.seen.now.operation.now.r1, c.args.seen.now.operation.now.r2) r
     lacks room = least.0 (subst (λ needs. has_room needs r) (sym same_needs) room)
 
-    cannot : (P : Contents) → HasTaken P c.args.seen.now.beside.contents.now c.args.seen.now.operation.now c.args.taken.now c.args.holdings.now.held → ¬ MayStart P c.args.seen.now.key.now c.args.seen.now.operation.now c.args.at r
-    cannot P has = no_room c.args.seen.now.beside.contents.now c.args.seen.now.operation.now workstation its_workstation c.args.at c.args.taken.now c.args.holdings.now.held P has c.args.seen.now.key.now r lacks
+    cannot : (P : Contents) → HasTaken P c.args.seen.now.uncounted.contents.now c.args.seen.now.operation.now c.args.taken.now c.args.holdings.now.held → ¬ MayStart P c.args.seen.now.key.now c.args.seen.now.operation.now c.args.at r
+    cannot P has = no_room c.args.seen.now.uncounted.contents.now c.args.seen.now.operation.now workstation its_workstation c.args.at c.args.taken.now c.args.holdings.now.held P has c.args.seen.now.key.now r lacks
 
-    may_lower : (P : Contents) → HasTaken P c.args.seen.now.beside.contents.now c.args.seen.now.operation.now c.args.taken.now c.args.holdings.now.held
+    may_lower : (P : Contents) → HasTaken P c.args.seen.now.uncounted.contents.now c.args.seen.now.operation.now c.args.taken.now c.args.holdings.now.held
         → (lower : Refusal) → IsStartLine lower → number_of lower < number_of r → MayStart P c.args.seen.now.key.now c.args.seen.now.operation.now c.args.at lower
     may_lower P has lower line less =
-        lower_met c.args.seen.now.beside.contents.now c.args.seen.now.operation.now workstation its_workstation c.args.at c.args.taken.now c.args.holdings.now.held P has free after c.args.seen.now.key.now lower line
+        lower_met c.args.seen.now.uncounted.contents.now c.args.seen.now.operation.now workstation its_workstation c.args.at c.args.taken.now c.args.holdings.now.held P has free after c.args.seen.now.key.now lower line
         (before_busy workstation c.args.at c.args.taken.now c.args.seen.now.operation.now.r1 c.args.seen.now.operation.now.r2 r lower lacks less)
         (subst (λ needs. has_room needs lower) same_needs (least.1 lower less))
 
@@ -77,18 +77,18 @@ pub returns-then-has_resources-clause-ok : goal.returns-then-has_resources-claus
 returns-then-has_resources-clause-ok c P has r line =
     let at = ((goal.at.returns-then-has_resources-clause-ok c).After-fits) in
     let room : has_room at (c.args.seen.now.operation.now.r1, c.args.seen.now.operation.now.r2) r = subst (λ needs. has_room at needs r) (same_needs at) (c.in_ok-fits.ensures.ok r) in
-    line_met c.args.seen.now.beside.contents.now c.args.seen.now.operation.now (workstation at) (its_workstation at) c.args.at c.args.taken.now c.args.holdings.now.held P has (free at) (after at) c.args.seen.now.key.now r line room
+    line_met c.args.seen.now.uncounted.contents.now c.args.seen.now.operation.now (workstation at) (its_workstation at) c.args.at c.args.taken.now c.args.holdings.now.held P has (free at) (after at) c.args.seen.now.key.now r line room
     (c.has_resources.ensures.0 c.if-has_resources.true)
 
 pub returns-else-has_resources-clause-refused : goal.returns-else-has_resources-clause-refused
 returns-else-has_resources-clause-refused c P has =
     let at = ((goal.at.returns-else-has_resources-clause-refused c).After-fits) in
-    not_free c.args.seen.now.beside.contents.now c.args.seen.now.operation.now (workstation at) (its_workstation at) c.args.at c.args.taken.now c.args.holdings.now.held P has c.args.seen.now.key.now
+    not_free c.args.seen.now.uncounted.contents.now c.args.seen.now.operation.now (workstation at) (its_workstation at) c.args.at c.args.taken.now c.args.holdings.now.held P has c.args.seen.now.key.now
     (λ usable. true≢false (sym (c.has_resources.ensures.1 usable) ∙ c.if-has_resources.false))
 
 pub returns-else-has_resources-clause-least : goal.returns-else-has_resources-clause-least
 returns-else-has_resources-clause-least c P has lower line less =
     let at = ((goal.at.returns-else-has_resources-clause-least c).After-fits) in
     let room : has_room at (c.args.seen.now.operation.now.r1, c.args.seen.now.operation.now.r2) lower = subst (λ needs. has_room at needs lower) (same_needs at) (c.in_ok-fits.ensures.ok lower) in
-    lower_met c.args.seen.now.beside.contents.now c.args.seen.now.operation.now (workstation at) (its_workstation at) c.args.at c.args.taken.now c.args.holdings.now.held P has (free at) (after at) c.args.seen.now.key.now lower line
+    lower_met c.args.seen.now.uncounted.contents.now c.args.seen.now.operation.now (workstation at) (its_workstation at) c.args.at c.args.taken.now c.args.holdings.now.held P has (free at) (after at) c.args.seen.now.key.now lower line
     (λ is. omega (arith, less, ap number_of is)) room

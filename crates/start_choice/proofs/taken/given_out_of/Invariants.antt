@@ -4,5 +4,5 @@ use Rattle.start_choice.proofs.GivenRows.{given_before}
 use Rattle.start_choice.proofs.taken.given_out_of.Given as goal
 
 -- the operations that are gone through are counted
-abbrev pub invariant-loop-brief : goal.invariant-loop-brief
-invariant-loop-brief l = AreAt (entries l.beside.contents.now.workstations) l.given.items (given_before l.beside.contents.now l.brief-index)
+abbrev pub invariant-loop-summary : goal.invariant-loop-summary
+invariant-loop-summary l = AreAt (entries l.uncounted.contents.now.workstations) l.given.items (given_before l.uncounted.contents.now l.summary-index)

@@ -9,7 +9,7 @@ use Rattle.start_choice.proofs.taken.has_resources.Goals as goal
 
 pub returns-then-not-has_resource : goal.returns-then-not-has_resource
 returns-then-not-has_resource c =
-    let resources : Resources = c.args.beside.now.contents.now.resources in
+    let resources : Resources = c.args.uncounted.now.contents.now.resources in
     let held = c.args.holdings.now.held in
     let o = c.args.key.now in
     let items = c.as_slice-need-items.result.now in
@@ -22,7 +22,7 @@ returns-then-not-has_resource c =
 
 pub loop-need-preserved : goal.loop-need-preserved
 loop-need-preserved c = λ k d lt.
-    let resources : Resources = c.args.beside.now.contents.now.resources in
+    let resources : Resources = c.args.uncounted.now.contents.now.resources in
     let held = c.args.holdings.now.held in
     let o = c.args.key.now in
     let items = c.as_slice-need-items.result.now in
@@ -36,7 +36,7 @@ loop-need-preserved c = λ k d lt.
 
 pub returns : goal.returns
 returns c =
-    let resources : Resources = c.args.beside.now.contents.now.resources in
+    let resources : Resources = c.args.uncounted.now.contents.now.resources in
     let held = c.args.holdings.now.held in
     let o = c.args.key.now in
     let items = c.as_slice-need-items.result.now in

@@ -14,12 +14,12 @@ use Rattle.status_rules.specs.declared.Status.TheVariants.{Started}
 
 pub loop-i-init : goal.loop-i-init
 loop-i-init c =
-    let P = c.args.beside.now.contents.now in
+    let P = c.args.uncounted.now.contents.now in
     tallies_begin P (entries P.operations) (entries P.occurrences) (length c.occurrences-occurrences.result.now) c.in_ok-tallies.tallies.items
     (ap length c.occurrences-occurrences.ensures.rows) (c.in_ok-tallies.ensures.items_if_clones_equal (λ y h. search rules))
 
 -- the row that is gone through
-row_at : (c : After-operation_key-key) → (op : Operation) × (slice_get (entries c.args.beside.now.contents.now.operations) c.loop-i.i ≡ Some (c.operation_key-key.result.now, op))
+row_at : (c : After-operation_key-key) → (op : Operation) × (slice_get (entries c.args.uncounted.now.contents.now.operations) c.loop-i.i ≡ Some (c.operation_key-key.result.now, op))
 row_at c = c.operation_key-key.ensures.key
 
 pub operation_key-key-requires : goal.operation_key-key-requires
@@ -27,13 +27,13 @@ operation_key-key-requires c = omega (arith, c.loop-i-test.true, c.requires.size
 
 pub occurrence_place_of-place-requires : goal.occurrence_place_of-place-requires
 occurrence_place_of-place-requires c =
-    let P = c.args.beside.now.contents.now in
+    let P = c.args.uncounted.now.contents.now in
     let key = c.operation_key-key.result.now in
     let row = row_at ((goal.at.occurrence_place_of-place-requires c).After-operation_key-key) in
     some_is (get P.operations key) row.0 (row_found P c.loop-i.i key row.0 row.1)
 
 -- its occurrence's index
-place_at : (c : After-occurrence_place_of-place) → (terms : Occurrence) × (slice_get (entries c.args.beside.now.contents.now.occurrences) c.occurrence_place_of-place.result ≡ Some (c.operation_key-key.result.now.occurrence, terms))
+place_at : (c : After-occurrence_place_of-place) → (terms : Occurrence) × (slice_get (entries c.args.uncounted.now.contents.now.occurrences) c.occurrence_place_of-place.result ≡ Some (c.operation_key-key.result.now.occurrence, terms))
 place_at c = c.occurrence_place_of-place.ensures.at
 
 -- and the numbers there
@@ -46,7 +46,7 @@ read c =
 
 pub count_one-requires : goal.count_one-requires
 count_one-requires c =
-    let P = c.args.beside.now.contents.now in
+    let P = c.args.uncounted.now.contents.now in
     let at = place_at ((goal.at.count_one-requires c).After-occurrence_place_of-place) in
     let occurrence = c.operation_key-key.result.now.occurrence in
     at_most_rows P (entries P.operations) c.loop-i.i occurrence c.index_mut.result.now
@@ -55,7 +55,7 @@ count_one-requires c =
 
 pub loop-i-preserved : goal.loop-i-preserved
 loop-i-preserved c =
-    let P = c.args.beside.now.contents.now in
+    let P = c.args.uncounted.now.contents.now in
     let row = row_at ((goal.at.loop-i-preserved c).After-operation_key-key) in
     let at = place_at ((goal.at.loop-i-preserved c).After-occurrence_place_of-place) in
     let i = c.loop-i.i in
@@ -66,4 +66,4 @@ loop-i-preserved c =
     c.occurrence_place_of-place.result at.0 at.1 c.loop-i.tallies.items c.loop-i.invariant c.index_mut.result.now c.count_one.new.counts (read ((goal.at.loop-i-preserved c).After-index_mut)) c.count_one.ensures
 
 pub returns : goal.returns
-returns c = all_tallied c.args.beside.now.contents.now c.loop-i.i (omega (arith, c.loop-i-test.false, c.loop-i.auto.i-end, c.requires.size)) c.loop-i.tallies.items c.loop-i.invariant
+returns c = all_tallied c.args.uncounted.now.contents.now c.loop-i.i (omega (arith, c.loop-i-test.false, c.loop-i.auto.i-end, c.requires.size)) c.loop-i.tallies.items c.loop-i.invariant

@@ -5,4 +5,4 @@ use Rattle.start_choice.proofs.tallies.tallies_of.Given as goal
 
 -- the rows below i are counted
 abbrev pub invariant-loop-i : goal.invariant-loop-i
-invariant-loop-i l = AreByPlace (entries l.beside.contents.now.occurrences) l.tallies.items (IsTallySoFar l.beside.contents.now (entries l.beside.contents.now.operations) l.i)
+invariant-loop-i l = AreByPlace (entries l.uncounted.contents.now.occurrences) l.tallies.items (IsTallySoFar l.uncounted.contents.now (entries l.uncounted.contents.now.operations) l.i)

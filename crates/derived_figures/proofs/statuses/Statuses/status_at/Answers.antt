@@ -10,7 +10,7 @@ use Rattle.derived_figures.proofs.statuses.Statuses.status_at.Goals as goal
 
 pub returns : goal.returns
 returns c o op at =
-    let P = c.self.inside.beside.contents.now in
+    let P = c.self.inside.uncounted.contents.now in
     let statuses = c.self.inside.statuses.now in
     let are = c.self.invariant in
     let i = c.args.place in

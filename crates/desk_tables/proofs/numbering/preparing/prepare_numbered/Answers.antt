@@ -43,5 +43,5 @@ returns-clause-new c =
     let q = c.args.request.now in
     let n : Numbered = numbered_by c.args.tracker.now c.args.number c.args.text.now q in
     let p : Prepared = record { tracker = c.args.tracker.now; prepared = c.in_ok-prepared.prepared; receipt = c.in_ok-receipt.receipt; row = c.in_ok-receipt.row } in
-    step_is c.args.plan.now c.args.receipts.now n p c.look_at.ensures.sound (c.look_at.ensures.legal c.args.number q) ((rw c.in-New.is at c.judge.ensures.new).0 tt) ((c.if-not-has_room.ensures q).0 refl)
+    step_is c.args.plan.now c.args.receipts.now n p c.read_for_proof.ensures.sound (c.read_for_proof.ensures.legal c.args.number q) ((rw c.in-New.is at c.judge.ensures.new).0 tt) ((c.if-not-has_room.ensures q).0 refl)
     c.in_ok-prepared.ensures.step c.in_ok-prepared.ensures.changes (subst (λ (s : PlanState). FitsPlan s c.in_ok-prepared.prepared) c.in_ok-prepared.ensures.unchanged c.in_ok-prepared.ensures.prepared.by.fits) refl (c.in_ok-receipt.ensures.receipt ∙ ap (receipt_of n) c.named.ensures) c.in_ok-receipt.ensures.row

@@ -20,12 +20,12 @@ returns-clause-step c = if_ok c.prepare_in-loaded.result.1 (λ p of. of.by.step)
 pub returns-clause-sound : goal.returns-clause-sound
 returns-clause-sound c =
     let s = c.args.self.now in
-    if_ok c.prepare_in-loaded.result.1 (λ p of. step_sound s.plan (plan_after s p) c.args.request.now (accepted p.named) c.look_at.ensures of.by.step) (led (goal.at.returns-clause-sound c).After-prepare_in-loaded)
+    if_ok c.prepare_in-loaded.result.1 (λ p of. step_sound s.plan (plan_after s p) c.args.request.now (accepted p.named) c.read_for_proof.ensures of.by.step) (led (goal.at.returns-clause-sound c).After-prepare_in-loaded)
 
 pub returns-clause-starts : goal.returns-clause-starts
 returns-clause-starts c =
     let s = c.args.self.now in
-    if_ok c.prepare_in-loaded.result.1 (λ p of. step_starts s.plan (plan_after s p) c.args.request.now (accepted p.named) c.look_at.ensures of.by.step) (led (goal.at.returns-clause-starts c).After-prepare_in-loaded)
+    if_ok c.prepare_in-loaded.result.1 (λ p of. step_starts s.plan (plan_after s p) c.args.request.now (accepted p.named) c.read_for_proof.ensures of.by.step) (led (goal.at.returns-clause-starts c).After-prepare_in-loaded)
 
 pub returns-clause-most : goal.returns-clause-most
 returns-clause-most c = if_ok c.prepare_in-loaded.result.1 (λ p of. of.looks.allowed) (led (goal.at.returns-clause-most c).After-prepare_in-loaded)

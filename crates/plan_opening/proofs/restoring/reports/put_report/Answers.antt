@@ -18,7 +18,7 @@ returns-in-Some-clause-reported c =
     ∙ ap (λ m. record old { operations = m }) (put_made operation_cmp_total operation_cmp-IsAntisymmetric r.op (with_report r) old.operations c.in-Some.operation.now c.in-Some.ensures.found)
 
 pub returns-in-Some-clause-valid : goal.returns-in-Some-clause-valid
-returns-in-Some-clause-valid c = subst IsValid (sym (returns-in-Some-clause-reported c)) (report_valid c.args.row.now c.args.contents.now c.look_at.ensures c.requires)
+returns-in-Some-clause-valid c = subst IsValid (sym (returns-in-Some-clause-reported c)) (report_valid c.args.row.now c.args.contents.now c.read_for_proof.ensures c.requires)
 
 pub returns-in_default-clause-reported : goal.returns-in_default-clause-reported
 returns-in_default-clause-reported c =

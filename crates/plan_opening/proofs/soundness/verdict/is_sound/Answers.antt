@@ -1,5 +1,5 @@
 use Rattle.std.proofs.Common.{sym, subst, ◌∙◌, true≢false}
-use Rattle.plan_rows.specs.plan_status.specs.Briefs.{AreBriefs}
+use Rattle.plan_rows.specs.plan_status.specs.Summaries.{AreSummaries}
 use Rattle.plan_opening.proofs.soundness.verdict.is_sound.Goals as goal
 
 pub returns-then-not-rows_are_sound-clause-sound : goal.returns-then-not-rows_are_sound-clause-sound
@@ -32,6 +32,6 @@ standings_of-requires c = (
   record {
     valid = c.rows_are_sound.ensures.valid;
     graph = c.in_ok-graph.ensures;
-    briefs = subst (AreBriefs c.args.contents.now) (sym c.deref.ensures.value) c.in_ok-briefs.ensures;
+    summaries = subst (AreSummaries c.args.contents.now) (sym c.deref.ensures.value) c.in_ok-summaries.ensures;
   },
 )

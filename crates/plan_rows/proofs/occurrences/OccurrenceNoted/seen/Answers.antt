@@ -8,7 +8,7 @@ use Rattle.plan_rows.specs.Shown.{shown_with}
 
 -- the rows that are read are those of what is shown
 read : (c : After-occurrences) → c.occurrences.result.now ≡ entries c.args.shown.now.contents.occurrences
-read c = c.occurrences.ensures.rows ∙ ap (λ (P : Contents). entries P.occurrences) c.beside.ensures.contents
+read c = c.occurrences.ensures.rows ∙ ap (λ (P : Contents). entries P.occurrences) c.uncounted.ensures.contents
 
 pub row_of-requires-clause-terms : goal.row_of-requires-clause-terms
 row_of-requires-clause-terms c =

@@ -4,7 +4,7 @@ use Rattle.plan_rows.proofs.Sources.{is_source, some_source, source_keeps}
 use Rattle.plan_rows.proofs.shown_tables.ShownTablesTwoTables.is_alike.Goals as goal
 use Rattle.plan_rows.specs.Rows.{if_shown, rows_of}
 use Rattle.plan_rows.specs.Shown.{source_if_any, source_of}
-use Rattle.plan_rows.specs.declared.shown.TableSource.{TableSource}
+use Rattle.plan_rows.specs.declared.row_sources.TableSource.{TableSource}
 use Rattle.row_differences.specs.Differences.{HaveOneKey}
 
 pub unwrap-requires : goal.unwrap-requires
@@ -14,7 +14,7 @@ pub is_alike-requires-clause-before : goal.is_alike-requires-clause-before
 is_alike-requires-clause-before g c = is_source c.self.inside.before c.unwrap.result c.unwrap.ensures c.self.invariant.0
 
 pub is_alike-requires-clause-kept : goal.is_alike-requires-clause-kept
-is_alike-requires-clause-kept g c = source_keeps c.self.inside.before c.unwrap.result c.self.inside.after.beside.contents.now c.unwrap.ensures c.self.invariant.2
+is_alike-requires-clause-kept g c = source_keeps c.self.inside.before c.unwrap.result c.self.inside.after.uncounted.contents.now c.unwrap.ensures c.self.invariant.2
 
 pub is_alike-requires-clause-one_key : goal.is_alike-requires-clause-one_key
 is_alike-requires-clause-one_key g c =

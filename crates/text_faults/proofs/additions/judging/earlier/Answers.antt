@@ -2,7 +2,7 @@ use Rattle.std.proofs.Common.{sym, ap, refl, ◌∙◌, true≢false, Some}
 use Rattle.std.proofs.lemmas.Option.{none-some, same_Some}
 use Rattle.plan_items.specs.declared.Item.TheVariants as item
 use Rattle.record_faults.proofs.Gathering.{at_read}
-use Rattle.text_faults.proofs.BesideLaws.{another_told}
+use Rattle.text_faults.proofs.AdditionFaultLaws.{another_told}
 use Rattle.text_faults.proofs.additions.judging.earlier.Goals as goal
 
 pub returns-then-not-is_of_one : goal.returns-then-not-is_of_one

@@ -1,9 +1,0 @@
-use Rattle.std.proofs.Common.{sym, subst}
-use Rattle.plan_model.specs.Status.{HasStatus}
-use Rattle.plan_status.proofs.Briefed.{status_briefed}
-use Rattle.plan_status.proofs.briefs.Brief.status.Goals as goal
-
-pub returns : goal.returns
-returns c P o has standing =
-    subst (HasStatus P o) (sym c.status_of.ensures.table)
-    (status_briefed P o has.0 c.args.self.now c.args.standing.now.preds has.1 has.2 standing.preds)

@@ -1,7 +1,0 @@
-use Rattle.std.proofs.Common.{◌≢◌, AllPairs}
-use Rattle.text_faults.specs.AddedFaults.{AreToldBelow, IsBesideAt}
-use Rattle.text_faults.proofs.additions.finding.beside_of.Given as goal
-
--- those of the places so far, each once
-abbrev pub invariant-loop-place : goal.invariant-loop-place
-invariant-loop-place l = AreToldBelow (IsBesideAt l.added l.said) l.place l.faults.items × AllPairs (λ a b. a ≢ b) l.faults.items
