@@ -25,7 +25,11 @@ pub mod NightDraft
 pub mod NightLoad
 pub mod NightEnds
 pub mod NightReruns
+pub mod FirstReports
 pub mod NightTold
 pub mod BackupComing
 pub mod BackupChosen
 pub mod BackupLeft
+pub mod TrioAgain
+pub mod DailyEnds
+pub mod DailyStopped

@@ -43,7 +43,7 @@ module _ (a b c : Terms) where
   station_is : get (trio a b c).workstations cpu1 ≡ Some cpu1_station
   station_is = get-from_entries name_cmp_total ((cpu1, cpu1_station) ∷ []) cpu1
 
-  no_pair : (p o : OpKey) → Precedes (trio a b c) p o → ⊥
+  pub no_pair : (p o : OpKey) → Precedes (trio a b c) p o → ⊥
   no_pair p o h = true≢false (sym h ∙ contains-empty pair_cmp (p, o))
 
   module _ (o : OpKey) (t : Terms) (is : get (trio a b c).operations o ≡ Some (operation_by t)) (of : get (trio a b c).occurrences o.occurrence ≡ Some (occurrence_by t)) where

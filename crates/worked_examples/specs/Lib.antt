@@ -6,4 +6,5 @@ pub mod Billing
 pub mod DayText
 pub mod Backup
 pub mod Tracker
+pub mod Stopped
 pub mod Statements

@@ -1,25 +1,29 @@
 -- What is to hold of the plans that are written out here.
-use Rattle.std.specs.Prelude.{◌≡◌, ◌≢◌, ◌↔◌, [], ◌∷◌, ℕ, Option, Some, pos, neg_ℤ}
+use Rattle.std.specs.Prelude.{◌≡◌, ◌≢◌, ◌⊎◌, ◌↔◌, [], ◌∷◌, ℕ, Option, Some, pos, neg_ℤ}
 use Rattle.plan_basics.specs.Minutes.{civil_minute}
 use Rattle.status_rules.specs.declared.Status.TheVariants as status
 use Rattle.plan_basics.specs.declared.Refusal.{Refusal}
 use Rattle.plan_basics.specs.declared.Refusal.TheVariants as refusal
 use Rattle.plan_model.specs.Plan.{Plan, no_plan}
 use Rattle.plan_model.specs.Contents.{Contents, Has}
+use Rattle.plan_records.specs.declared.Request.{Request}
 use Rattle.plan_records.specs.declared.What.{What}
 use Rattle.plan_records.specs.declared.What.TheVariants as what
 use Rattle.plan_records.specs.Answer.{Answer, accepted, refused}
 use Rattle.plan_records.specs.Changes.{Changes, LeavesOver}
-use Rattle.plan_records.specs.Run.{Run, numbered, usable}
+use Rattle.plan_records.specs.Run.{Run, State, numbered, usable}
+use Rattle.plan_records.specs.Schedules.{Schedule, World, created}
 use Rattle.plan_records.specs.Step.{Numbered, NumberedStep, Step}
 use Rattle.plan_model.specs.Status.{HasStatus}
 use Rattle.plan_model.specs.Holdings.{Holds}
 use Rattle.plan_model.specs.Ready.{IsChosen, named}
 use Rattle.plan_model.specs.Starts.{IsLatestStart, MayStart}
+use Rattle.plan_laws.specs.Laws.{IsLeftBy}
 use Rattle.worked_examples.specs.Day.{day, evening, first, loaded_at, morning, second}
 use Rattle.worked_examples.specs.Overdue.{old_at, overdue}
 use Rattle.worked_examples.specs.Trio.{aaa, bbb, ccc, by_duration, by_fixed_resource, by_key, by_latest_start, by_priority, three, half_past_three, four, ten_past_four}
 use Rattle.worked_examples.specs.Tracker.{after_told, ended_told, failure_told, no_receipts, one_receipt}
+use Rattle.worked_examples.specs.Stopped.{after_report, before_report, first_ended, first_started, report_acts, report_made, report_stopped}
 use Rattle.worked_examples.specs.Backup.{backup_addition, backup_alone, backup_key, day_over, nothing_added, with_backup}
 use Rattle.worked_examples.specs.Billing.{billing_key, eleven, failed}
 use Rattle.worked_examples.specs.Night.{alone, fourth_held, from_first_again, from_third_again, custfile, end_of_second, second_ended, second_started, night, payroll, third_started, three_done, two_passed, payroll_at, loading, two_at_night, end_of_night}
@@ -198,3 +202,35 @@ abbrev pub RunToldTwice : Type 0
 RunToldTwice =
     Run (record { plan = loaded_at loading second_started; receipts = no_receipts }) usable (numbered (ended_told 1) ∷ numbered (ended_told 1) ∷ [])
     (accepted (payroll_at 20 ∷ []) ∷ accepted (payroll_at 20 ∷ []) ∷ []) (record { plan = after_told; receipts = one_receipt }) usable
+
+-- a request that is made twice, one time at once after the other: both answers, and the plan after the first, which the second leaves
+abbrev pub IsMadeTwice : Plan → Request → Answer → Plan → Answer → Type 0
+IsMadeTwice P q one_answer after other_answer = Step P q one_answer after × Step after q other_answer after
+
+-- a tick names CCC and BBB, and the same tick once more names nothing, since no server is left for AAA
+abbrev pub TickTwice : Type 0
+TickTwice =
+    IsMadeTwice (loaded_at evening by_latest_start) (record { at = pos evening; what = what.Tick }) (accepted (ccc ∷ bbb ∷ []))
+    (loaded_at evening (named (ccc ∷ bbb ∷ []) by_latest_start)) (accepted [])
+
+-- DAILY's first ends, and the second is named; told once more, it is refused, since the first is complete
+abbrev pub EndTwice : Type 0
+EndTwice =
+    IsMadeTwice (loaded_at evening first_started) (record { at = pos end_of_second; what = what.Ended first }) (accepted (second ∷ []))
+    (loaded_at end_of_second (named (second ∷ []) first_ended)) (refused refusal.WrongStatus)
+
+-- a report is stopped: whether the opening finds the plan before it or after it, made again it is answered, and what is stored then is the same
+abbrev pub ReportStopped : Type 0
+ReportStopped = Schedule created (report_stopped before_report) report_made × Schedule created (report_stopped after_report) report_made
+
+-- no opening finds anything else, and nothing else is stored at the end
+abbrev pub NoOtherIsFound : Type 0
+NoOtherIsFound = (s : State) (w : World) → Schedule created (report_stopped s) w → ((s ≡ before_report) ⊎ (s ≡ after_report)) × (w ≡ report_made)
+
+-- where an opening found this, what is stored at the end is what a run leaves in which the report acted once, and nothing else of a tracker's acted
+abbrev pub LeavesOneAct : State → Type 0
+LeavesOneAct s = (left : IsLeftBy (report_stopped s) report_made.stored) × (left.acts ≡ report_acts ∷ [])
+
+-- so it is in both
+abbrev pub ReportActsOnce : Type 0
+ReportActsOnce = LeavesOneAct before_report × LeavesOneAct after_report

@@ -13,7 +13,7 @@ ghost use Rattle.plan_records.specs.declared.What.{What};
 ghost use Rattle.plan_records.specs.Answer.{refused, accepted};
 ghost use Rattle.plan_basics.specs.declared.Refusal.{Refusal};
 ghost use Rattle.status_rules.specs.declared.Status.{Status};
-ghost use Rattle.worked_examples.specs.Statements.{MomentsOfTheNight, LatestStartsOfTheNight, StatusesWhenLoaded, StatusesAfterTheThird, StatusesOfHeld, StatusesOfPassed, StartsWhileClosed, PairThatLeadsBack, DeletionWhileStarted, SecondLoad, ChoicesForTwoServers, ChoiceForFixedResource, TickThatNames, LatestStartsOfOverdueWork, KeptResource, LoadThatNames, LoadOfTheNight, EndOfTheSecond, RerunOfTheThird, RerunOfTheFirst, BackupAdded, DailyLeaves, NumberedRequest, NumberedAgain, RunToldTwice};
+ghost use Rattle.worked_examples.specs.Statements.{MomentsOfTheNight, LatestStartsOfTheNight, StatusesWhenLoaded, StatusesAfterTheThird, StatusesOfHeld, StatusesOfPassed, StartsWhileClosed, PairThatLeadsBack, DeletionWhileStarted, SecondLoad, ChoicesForTwoServers, ChoiceForFixedResource, TickThatNames, LatestStartsOfOverdueWork, KeptResource, LoadThatNames, LoadOfTheNight, EndOfTheSecond, RerunOfTheThird, RerunOfTheFirst, BackupAdded, DailyLeaves, NumberedRequest, NumberedAgain, RunToldTwice, TickTwice, EndTwice, ReportStopped, NoOtherIsFound, ReportActsOnce};
 ghost use Rattle.worked_examples.specs.Day.{day, idle, loaded_at, first, second, evening};
 
 /// The first operation is arriving, the second waits for it.
@@ -151,4 +151,17 @@ pub fn numbered_requests()
     ensures accepted { NumberedRequest }
     ensures again { NumberedAgain }
     ensures run { RunToldTwice }
+{}
+
+/// A request that is made again at once changes nothing: a tick is accepted and names nothing, and an end is refused.
+pub fn requests_made_twice()
+    ensures tick { TickTwice }
+    ensures end { EndTwice }
+{}
+
+/// A report is stopped, the desk is opened again, and the report is made again: it acts once, wherever it was stopped.
+pub fn stopped_report()
+    ensures schedule { ReportStopped }
+    ensures alone { NoOtherIsFound }
+    ensures once { ReportActsOnce }
 {}
