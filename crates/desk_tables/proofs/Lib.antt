@@ -6,6 +6,8 @@ pub mod InRange
 pub mod Opened
 pub mod BroughtUp
 pub mod Stopped
+pub mod Told
+pub mod FoundAgain
 mod Rooms
 mod Receipts
 pub mod PreparedSteps

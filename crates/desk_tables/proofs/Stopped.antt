@@ -1,5 +1,5 @@
 -- What a stop leaves, and what an opening after it finds.
-use Rattle.std.proofs.Common.{◌≡◌, ◌↔◌, inl, inr, refl, sym, arith, subst, ◌∙◌, ap, [], Bool, true, false, None, Some, IsTrue}
+use Rattle.std.proofs.Common.{◌≡◌, ◌↔◌, inl, inr, refl, sym, arith, subst, ◌∙◌, ap, [], Bool, true, false, Option, None, Some, IsTrue}
 use Rattle.std.proofs.lemmas.Bool.{false≢true}
 use Rattle.sqlite.specs.Effect.{Database, IsDatabase}
 use Rattle.sqlite.specs.State.{State as StoreState, HasCleanDisk, IsLive, Survives}
@@ -8,6 +8,8 @@ use Rattle.tracker_receipts.specs.plan_laws.proofs.Tabling.{rows_tell_plan, rows
 use Rattle.store_reads.proofs.ReceiptsStored.{IsRowIn, one_receipts}
 use Rattle.store_reads.proofs.RowsStored.{one_stored}
 use Rattle.store_reads.specs.Reads.{OnlyReads}
+use Rattle.store_reads.specs.Versions.{HasTableQuantity, IsRowBy}
+use Rattle.store_reads.proofs.TableQuantity.{second_has_quantity}
 use Rattle.store_schema.proofs.Catalogs.{one_schema}
 use Rattle.store_schema.specs.Tables.{no_schema}
 use Rattle.plan_records.specs.Receipts.{AreReceipts, IsReceiptRow}
@@ -15,9 +17,8 @@ use Rattle.plan_records.specs.Rows.{IsRow}
 use Rattle.plan_records.specs.declared.PlanRow.{PlanRow}
 use Rattle.plan_records.specs.declared.PlanRow.TheVariants as row
 use Rattle.plan_model.specs.Plan.{Plan}
-use Rattle.store_reads.specs.Versions.{IsRowBy}
 use Rattle.plan_records.specs.Run.{Call, State, Usable, to_be_reopened, usable}
-use Rattle.plan_records.specs.Schedules.{IsDeskState, found, nothing, opening, stopped}
+use Rattle.plan_records.specs.Schedules.{IsDeskState, found, nothing, opening, stop, stopped}
 use Rattle.plan_records.specs.Step.{Receipt, Receipts}
 use Rattle.plan_writes.specs.Within.{Begins, LeavesMade}
 use Rattle.tracker_receipts.proofs.SameReceipt.{one_receipt}
@@ -25,7 +26,7 @@ use Rattle.tracker_receipts.specs.Stored.{columns_of}
 use Rattle.store_schema.specs.Schema.{desk_schema, first_schema, schema_of}
 use Rattle.store_schema.specs.declared.texts.Version.{Version}
 use Rattle.store_schema.specs.declared.texts.Version.TheVariants.{First, Second}
-use Rattle.desk_tables.specs.Desk.{HasFirstTables, HasTables, HoldsFirstState, HoldsNoStateIn, HoldsState, HoldsStateIn, IsStepCommitted, TreesHold, TreesHoldIn, usability}
+use Rattle.desk_tables.specs.Desk.{HasFirstTables, HasTables, HoldsFirstState, HoldsNoStateIn, HoldsState, HoldsStateIn, IsClean, IsStepCommitted, TreesHold, TreesHoldIn, usability}
 use Rattle.desk_tables.specs.Opening.{IsOpenedFirst, MayBringUp}
 use Rattle.desk_tables.specs.Stops.{AreLeftBy, AreLeftByMaking, AreLeftIn, MayCommitStep, StopsLeave}
 use Rattle.desk_tables.proofs.Held.{begun_held, brought_up}
@@ -84,6 +85,21 @@ stop_steps : (s : State) (b : Bool) (c : Call) (trees : Trees) → b ≡ true �
 stop_steps s true c trees e (t, named, step, held) = (t, None, (inr (named, step), refl), held)
 stop_steps s false c trees e step = absurd (false≢true e)
 
+-- tables of a state are left by a stop between calls, whatever desk there is
+stands : (s : State) (d : Option Usable) (trees : Trees) → TreesHold s trees → AreLeftBy s d stop trees
+stands s None trees held = (s, None, (refl, refl), held)
+stands s (Some usable) trees held = (s, None, (refl, refl), held)
+stands s (Some to_be_reopened) trees held = (s, None, (refl, refl), held)
+
+-- what a desk has come to is what a stop leaves then, where its store is open
+pub desk_stands : (now : StoreState) → (IsTrue now.is_open → (trees : Trees) → now.may_leave trees → trees ≡ now.committed.trees) → (s : State) (d : Option Usable) → (IsClean now → HasTables now → HoldsState s now.committed) → IsTrue now.is_open → HasTables now
+    → StopsLeave now (AreLeftBy s d stop)
+desk_stands now settled s d holds is_open has clean trees may = stands s d trees (now.committed, holds (clean, is_open) has, settled is_open trees may)
+
+-- a desk's tables have one that is called `quantity`
+pub desk_has_quantity : (db : Database) → db.schema ≡ desk_schema → HasTableQuantity db.schema
+desk_has_quantity db is = second_has_quantity db.schema is
+
 -- while the store is open, a stop before anything is done leaves what was committed
 module _ (old : StoreState) (settled : (trees : Trees) → old.may_leave trees → trees ≡ old.committed.trees) where
   module _ (s : State) (held : HasCleanDisk old → HoldsState s old.committed) where
@@ -106,10 +122,10 @@ module _ (old : StoreState) (settled : (trees : Trees) → old.may_leave trees �
   ]
 
   -- trees of a desk's state are those of its tables, of which an opening only reads
-  pub desk_stops : (new : StoreState) (s : State) → IsTrue old.is_open → IsLive old → (IsTrue old.is_open → old.now ≡ old.committed) → TreesHold s old.committed.trees → (old.now.schema ≡ desk_schema → OnlyReads old new) → StopsLeave new (AreLeftBy s None (opening nothing))
+  pub desk_stops : (new : StoreState) (s : State) → IsTrue old.is_open → IsLive old → (IsTrue old.is_open → old.now ≡ old.committed) → TreesHold s old.committed.trees → (HasTableQuantity old.now.schema → OnlyReads old new) → StopsLeave new (AreLeftBy s None (opening nothing))
   desk_stops new s is_open live shown left reads =
       let was = found_again Second s old.committed.trees old.committed left (live is_open).1 refl in
-      reading_stops new s left (reads (ap (λ (db : Database). db.schema) (shown is_open) ∙ was.stores.schema_is)).survives
+      reading_stops new s left (reads (desk_has_quantity old.now (ap (λ (db : Database). db.schema) (shown is_open) ∙ was.stores.schema_is))).survives
 
   -- one before anything is read
   pub no_reading_stops : (s : State) → TreesHold s old.committed.trees → StopsLeave old (AreLeftBy s None (opening nothing))
@@ -156,11 +172,11 @@ module _ (version : Version) (s : State) (old new : StoreState) (live : IsLive o
   never_damaged stays none = none version (ap (λ (db : Database). db.schema) stays ∙ held.stores.schema_is) s legal (subst (HoldsStateIn version s) (sym stays) held)
 
 -- an opening of a desk's tables finds just that state
-pub opening_finds : (s : State) (old new : StoreState) → IsLive old → (IsTrue old.is_open → old.now ≡ old.committed) → (old.now.schema ≡ desk_schema → OnlyReads old new) → HasCleanDisk new → IsTrue new.is_open → IsTrue old.is_open → IsDeskState s → TreesHold s old.committed.trees → (x : State) → IsDeskState x → (HasTables new → HoldsState x new.committed)
+pub opening_finds : (s : State) (old new : StoreState) → IsLive old → (IsTrue old.is_open → old.now ≡ old.committed) → (HasTableQuantity old.now.schema → OnlyReads old new) → HasCleanDisk new → IsTrue new.is_open → IsTrue old.is_open → IsDeskState s → TreesHold s old.committed.trees → (x : State) → IsDeskState x → (HasTables new → HoldsState x new.committed)
     → HasTables new × AreLeftBy s None (opening (found x)) new.committed.trees
 opening_finds s old new live shown reads clean is_open was_open legal left x sound tables =
     let was = held Second s old new live clean is_open was_open legal left in
-    let kept = (reads (ap (λ (db : Database). db.schema) (shown was_open) ∙ was.stores.schema_is)).kept clean in
+    let kept = (reads (desk_has_quantity old.now (ap (λ (db : Database). db.schema) (shown was_open) ∙ was.stores.schema_is))).kept clean in
     let stays : new.committed ≡ old.committed = kept.committed is_open in
     let now : HoldsState s new.committed = subst (HoldsState s) (sym stays) was in
     let has = now.stores.schema_is in

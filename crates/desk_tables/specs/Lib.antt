@@ -3,6 +3,7 @@ pub use Rattle.plan_core.specs.plan_laws
 pub use Rattle.plan_model
 pub use Rattle.plan_records
 pub use Rattle.store_reads
+pub use Rattle.store_schema
 pub mod Desk
 pub mod Calls
 pub mod Opening
@@ -11,4 +12,5 @@ pub mod Errors
 pub mod Runs
 pub mod Shut
 pub mod Stops
+pub mod Again
 pub mod Steps

@@ -10,7 +10,7 @@ use Rattle.store_schema.specs.declared.texts.Version.{Version}
 use Rattle.store_schema.specs.declared.texts.Version.TheVariants.{First, Second}
 use Rattle.desk_tables.specs.Desk.{DeskState, HasTables, IsStepCommitted, TreesHold, TreesHoldIn}
 
--- where the disk has returned what was written so far, a stop at any moment until now leaves trees of which this is so
+-- where the disk has returned what was written so far, a stop now leaves trees of which this is so; a stop at an earlier moment of a call is one now, over a store whose disk refuses all calls from that moment on, as a clause holds over every store
 abbrev pub StopsLeave : StoreState → (Trees → Type 0) → Type 0
 StopsLeave new IsSo = HasCleanDisk new → (trees : Trees) → new.may_leave trees → IsSo trees
 

@@ -1,10 +1,13 @@
 // What is answered where a call of the store fails.
-ghost use Rattle.std.specs.Prelude.{◌≡◌, ◌⊎◌};
+ghost use Rattle.std.specs.Prelude.{◌≡◌, ◌⊎◌, false, IsTrue};
+ghost use Rattle.sqlite.specs.Held.{state};
+ghost use Rattle.sqlite.specs.State.{HasCleanDisk};
 ghost use Rattle.plan_basics.specs.declared.Refusal.{Refusal as Told};
-ghost use Rattle.desk_tables.specs.Faults.{opening_refusal, request_refusal};
+ghost use Rattle.store_reads.specs.Reads.{OnlyReads};
+ghost use Rattle.desk_tables.specs.Faults.{opening_refusal, request_refusal, IsOpeningRefusal};
 
 use plan_basics::Refusal;
-use sqlite::{Error, ErrorCode};
+use sqlite::{Alter, Connection, Error, ErrorCode};
 
 /// What a request is answered whose transaction failed: that memory lacks, or that the store failed.
 pub fn request_refusal(error: &Error) -> Refusal
@@ -25,5 +28,23 @@ pub fn opening_refusal(error: &Error) -> Refusal
     match error {
         Error::SqlInputError(_) | Error::SqliteFailure(ErrorCode::NameTaken) => Refusal::Damaged,
         _ => request_refusal(error),
+    }
+}
+
+/// What is told where no desk is made or opened: `Damaged` only where the store is open still, as its connection shows by
+/// taking a statement in, of which nothing is run.
+pub fn refusal_told<S: Alter>(conn: &mut Connection<S>, refusal: Refusal) -> Refusal
+    ensures idle { conn.old.in_transaction ≡ false → conn.new.in_transaction ≡ false }
+    ensures reads { OnlyReads (state S.Store conn.old) (state S.Store conn.new) }
+    ensures same { result ≡ Told.Damaged → refusal ≡ Told.Damaged }
+    ensures is_open { result ≡ Told.Damaged → HasCleanDisk (state S.Store conn.new) → IsTrue (state S.Store conn.new).is_open }
+    ensures refused { IsOpeningRefusal refusal → IsOpeningRefusal result }
+{
+    match refusal {
+        Refusal::Damaged => match conn.prepare("ROLLBACK") {
+            Ok(_) => Refusal::Damaged,
+            Err(error) => request_refusal(&error),
+        },
+        other => other,
     }
 }

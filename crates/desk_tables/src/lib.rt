@@ -6,15 +6,18 @@
 //! call. The store may be a file or lie in memory.
 #![tactic(auto)]
 
+mod again;
 mod calls;
 mod desk;
 mod errors;
 mod faults;
+mod making;
 mod numbering;
 mod opening;
 mod runs;
 mod writing;
 
+pub use again::{connect_again, open_again};
 pub use desk::Desk;
 pub use errors::{ErrorRow, ErrorRows};
 pub use numbering::{NumberedOutcome, NumberedStep, prepare_numbered};

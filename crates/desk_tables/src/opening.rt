@@ -5,20 +5,23 @@ ghost use Rattle.sqlite.specs.State.{HasCleanDisk, IsLive, Survives};
 ghost use Rattle.plan_basics.specs.declared.Refusal.{Refusal};
 ghost use Rattle.store_reads.specs.Reads.{OnlyReads};
 ghost use Rattle.store_reads.specs.Tables.{StoresEach};
-ghost use Rattle.store_schema.specs.Schema.{desk_schema, first_schema, schema_of};
+ghost use Rattle.store_reads.specs.Versions.{HasTableQuantity};
+ghost use Rattle.store_schema.specs.Schema.{first_schema, schema_of};
 ghost use Rattle.store_schema.specs.declared.texts.Version.{Version};
 ghost use Rattle.store_schema.specs.declared.texts.Version.TheVariants.{First, Second};
+ghost use Rattle.plan_records.specs.Answer.{refused};
 ghost use Rattle.plan_records.specs.Receipts.{AreReceipts};
 ghost use Rattle.plan_records.specs.Schedules.{IsDeskState};
 ghost use Rattle.plan_records.specs.Step.{Receipts as LastReceipts};
 ghost use Rattle.desk_tables.specs.Desk.{HasFirstTables, HasTables, HoldsNoStateIn, HoldsState, HoldsStateIn, IsClean};
 ghost use Rattle.desk_tables.specs.Faults.{IsOpeningRefusal};
 ghost use Rattle.desk_tables.specs.Opening.{AreOfNoState, IsOpenedFirst, IsStateOf, MayBringUp};
+ghost use Rattle.desk_tables.specs.Shut.{IsOpenAfter};
 ghost use Rattle.plan_writes.specs.Upgrading.{Upgrades};
 ghost use Rattle.plan_writes.specs.Within.{IsCommitted, IsUndone, LeavesMade};
 ghost use Rattle.tracker_receipts.specs.Stored.{AreRowsOf};
 
-use super::faults::opening_refusal;
+use super::faults::{opening_refusal, refusal_told};
 use plan_basics::Refusal;
 use plan_core::Plan;
 use plan_writes::upgrade_tables;
@@ -35,6 +38,7 @@ fn kept_tables<S: Alter>(alloc: Global, conn: &mut Connection<S>) -> Result<Stor
     ensures reads { OnlyReads (state S.Store conn.old) (state S.Store conn.new) }
     ensures is_open { HasCleanDisk (state S.Store conn.new) → OnOk result (IsTrue (state S.Store conn.new).is_open) }
     ensures version { IfOk result (λ tables. (version : Version) → (state S.Store conn.old).now.schema ≡ schema_of version → tables.version ≡ version) }
+    ensures second { IfOk result (λ tables. HasTableQuantity (state S.Store conn.old).now.schema → tables.version ≡ Second) }
     ensures rows { IfOk result (λ tables. IsClean (state S.Store conn.new) → (version : Version) → (state S.Store conn.new).committed.schema ≡ schema_of version → (tables.version ≡ version) × StoresEach version tables.rows.items tables.receipts.items (state S.Store conn.new).committed) }
     ensures refused { IfErr result IsOpeningRefusal }
     ensures damaged { IfErr result (λ r. r ≡ Refusal.Damaged → IsClean (state S.Store conn.new) → (version : Version) → (state S.Store conn.new).committed.schema ≡ schema_of version → HoldsNoStateIn version (state S.Store conn.new).committed) }
@@ -99,6 +103,7 @@ fn stored_state<S: Alter>(alloc: Global, conn: &mut Connection<S>) -> Result<Sto
     ensures reads { OnlyReads (state S.Store conn.old) (state S.Store conn.new) }
     ensures is_open { HasCleanDisk (state S.Store conn.new) → OnOk result (IsTrue (state S.Store conn.new).is_open) }
     ensures version { IfOk result (λ found. (version : Version) → (state S.Store conn.old).now.schema ≡ schema_of version → found.version ≡ version) }
+    ensures second { IfOk result (λ found. HasTableQuantity (state S.Store conn.old).now.schema → found.version ≡ Second) }
     ensures sound { IfOk result (λ found. IsDeskState (record { plan = found.plan.plan; receipts = found.receipts })) }
     ensures tables { IfOk result (λ found. IsClean (state S.Store conn.new) → (version : Version) → (state S.Store conn.new).committed.schema ≡ schema_of version → (found.version ≡ version) × HoldsStateIn version (record { plan = found.plan.plan; receipts = found.receipts }) (state S.Store conn.new).committed) }
     ensures refused { IfErr result IsOpeningRefusal }
@@ -138,10 +143,10 @@ fn bring_up<S: Alter>(conn: &mut Connection<S>, stored: &StoredState) -> Result<
     }
 }
 
-/// The plan and the receipts whose rows the tables hold. Tables of the first version are then those of the second.
-/// Refused as `Damaged` where the tables hold the rows of no sound plan with well formed receipts, or where the names of
-/// tables that lack are taken, as `Memory` for want of memory, as `Store` for any other fault of the store.
-pub fn opened_state<S: Alter>(
+// The plan and the receipts whose rows the tables hold. Tables of the first version are then those of the second.
+// Refused as `Damaged` where the tables hold the rows of no sound plan with well formed receipts, or where the names of
+// tables that lack are taken, as `Memory` for want of memory, as `Store` for any other fault of the store.
+fn opened_state<S: Alter>(
     alloc: Global,
     conn: &mut Connection<S>,
 ) -> Result<(Plan, Receipts), Refusal>
@@ -151,7 +156,7 @@ pub fn opened_state<S: Alter>(
     ensures is_open { HasCleanDisk (state S.Store conn.new) → OnOk result (IsTrue (state S.Store conn.new).is_open) }
     ensures sound { IfOk result (λ found. IsDeskState (record { plan = found.0.plan; receipts = found.1 })) }
     ensures tables { IfOk result (λ found. IsClean (state S.Store conn.new) → HasTables (state S.Store conn.new) → HoldsState (record { plan = found.0.plan; receipts = found.1 }) (state S.Store conn.new).committed) }
-    ensures reads { (state S.Store conn.old).now.schema ≡ desk_schema → OnlyReads (state S.Store conn.old) (state S.Store conn.new) }
+    ensures reads { HasTableQuantity (state S.Store conn.old).now.schema → OnlyReads (state S.Store conn.old) (state S.Store conn.new) }
     ensures of_first { IfOk result (λ found. HasCleanDisk (state S.Store conn.new) → HasFirstTables (state S.Store conn.old) → IsOpenedFirst (record { plan = found.0.plan; receipts = found.1 }) (state S.Store conn.old) (state S.Store conn.new)) }
     ensures refused { IfErr result IsOpeningRefusal }
     ensures damaged { IfErr result (λ r. r ≡ Refusal.Damaged → IsClean (state S.Store conn.new) → (version : Version) → (state S.Store conn.new).committed.schema ≡ schema_of version → HoldsNoStateIn version (state S.Store conn.new).committed) }
@@ -162,4 +167,33 @@ pub fn opened_state<S: Alter>(
     let stored = stored_state(alloc, conn)?;
     bring_up(conn, &stored)?;
     Ok((stored.plan, stored.receipts))
+}
+
+/// The plan and the receipts whose rows the tables hold. Tables of the first version are then those of the second.
+/// Refused as `Damaged` where the tables hold the rows of no sound plan with well formed receipts, or where the names of
+/// tables that lack are taken, and the store is open then; as `Memory` for want of memory, as `Store` for any other fault
+/// of the store.
+pub fn found_state<S: Alter>(
+    alloc: Global,
+    conn: &mut Connection<S>,
+) -> Result<(Plan, Receipts), Refusal>
+    requires { conn.old.in_transaction ≡ false }
+    ensures idle { conn.new.in_transaction ≡ false }
+    ensures live { IsLive (state S.Store conn.old) }
+    ensures is_open { HasCleanDisk (state S.Store conn.new) → OnOk result (IsTrue (state S.Store conn.new).is_open) }
+    ensures sound { IfOk result (λ found. IsDeskState (record { plan = found.0.plan; receipts = found.1 })) }
+    ensures tables { IfOk result (λ found. IsClean (state S.Store conn.new) → HasTables (state S.Store conn.new) → HoldsState (record { plan = found.0.plan; receipts = found.1 }) (state S.Store conn.new).committed) }
+    ensures reads { HasTableQuantity (state S.Store conn.old).now.schema → OnlyReads (state S.Store conn.old) (state S.Store conn.new) }
+    ensures of_first { IfOk result (λ found. HasCleanDisk (state S.Store conn.new) → HasFirstTables (state S.Store conn.old) → IsOpenedFirst (record { plan = found.0.plan; receipts = found.1 }) (state S.Store conn.old) (state S.Store conn.new)) }
+    ensures refused { IfErr result IsOpeningRefusal }
+    ensures still_open { IfErr result (λ r. r ≡ Refusal.Damaged → HasCleanDisk (state S.Store conn.new) → IsTrue (state S.Store conn.new).is_open) }
+    ensures damaged { IfErr result (λ r. r ≡ Refusal.Damaged → HasCleanDisk (state S.Store conn.new) → (version : Version) → (state S.Store conn.new).committed.schema ≡ schema_of version → HoldsNoStateIn version (state S.Store conn.new).committed) }
+    ensures kept { HasCleanDisk (state S.Store conn.new) → IsTrue (state S.Store conn.new).is_open → IsTrue (state S.Store conn.old).is_open }
+    ensures undone { IfErr result (λ r. HasCleanDisk (state S.Store conn.new) → IsOpenAfter (refused r) (state S.Store conn.new) → (state S.Store conn.new).committed ≡ (state S.Store conn.old).committed) }
+    ensures survives { Survives (state S.Store conn.old) (state S.Store conn.new) (MayBringUp (state S.Store conn.old)) }
+{
+    match opened_state(alloc, conn) {
+        Ok(found) => Ok(found),
+        Err(refusal) => Err(refusal_told(conn, refusal)),
+    }
 }

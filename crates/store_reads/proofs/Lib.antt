@@ -14,4 +14,5 @@ pub mod ReceiptsStored
 pub mod RowsStored
 mod EachOnce
 mod Reading
+pub mod TableQuantity
 pub mod Turned

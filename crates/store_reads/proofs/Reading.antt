@@ -18,6 +18,7 @@ use Rattle.store_schema.proofs.Reading.{numbered_permuted}
 use Rattle.plan_records.specs.declared.PlanRow.{PlanRow}
 use Rattle.store_schema.specs.Schema.{schema_of}
 use Rattle.store_schema.specs.declared.texts.Version.{Version}
+use Rattle.store_schema.specs.declared.texts.Version.TheVariants.{Second}
 use Rattle.store_reads.specs.Receipts.{IsNoReceipt, IsReceiptStoredAs}
 use Rattle.store_reads.specs.Rows.{table_for, AppendsRows, IsNoRow, IsStoredAs}
 use Rattle.store_reads.specs.declared.decoding.Table.{Table}
@@ -229,6 +230,13 @@ pub version_named : (named : Version) (db : Database) (r : Result (Option Stored
 version_named named db (Err e) told is = tt
 version_named named db (Ok None) told is = tt
 version_named named db (Ok (Some tables)) told is = λ version has. is ∙ told version has
+
+-- what has a table `quantity` is read by the texts of the second version
+pub second_named : (named : Version) (there : Type 0) (r : Result (Option StoredTables) Error) → (there → named ≡ Second) → IfOk r (λ found. IfSome found (λ tables. tables.version ≡ named))
+    → IfOk r (λ found. IfSome found (λ tables. there → tables.version ≡ Second))
+second_named named there (Err e) told is = tt
+second_named named there (Ok None) told is = tt
+second_named named there (Ok (Some tables)) told is = λ has. is ∙ told has
 
 -- outside a transaction what is read is what is committed
 pub committed_rows : (named version : Version) (old new : State) (r : Result (Option StoredTables) Error) → (IsTrue old.is_open → old.now ≡ old.committed) → IsLive old → KeepsCommit old new → IsTrue new.is_open → ((any : Version) → old.now.schema ≡ schema_of any → named ≡ any)

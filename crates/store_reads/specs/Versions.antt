@@ -1,5 +1,7 @@
 -- The rows of a plan in the tables of either version: they differ in the version alone.
-use Rattle.std.specs.Prelude.{ℕ, Bool, true, false, List, map, cond, eqb}
+use Rattle.std.specs.Prelude.{ℕ, Bool, true, false, List, map, cond, eqb, codes, is_some, IsTrue}
+use Rattle.sqlite.specs.Schema.{Schema}
+use Rattle.sqlite_schema.specs.Names.{table_named}
 use Rattle.plan_records.specs.plan_model.specs.Plan.{Plan}
 use Rattle.plan_records.specs.Rows.{IsFirstRow, IsRow}
 use Rattle.plan_records.specs.declared.PlanRow.{PlanRow}
@@ -16,6 +18,10 @@ IsRowBy Second = IsRow
 abbrev pub has_quantity : Version → Bool
 has_quantity First = false
 has_quantity Second = true
+
+-- a database has a table `quantity`, whatever others there are
+abbrev pub HasTableQuantity : Schema → Type 0
+HasTableQuantity schema = IsTrue (is_some (table_named schema (codes "quantity")))
 
 -- the version that the other tables name
 abbrev pub other_version : ℕ → ℕ

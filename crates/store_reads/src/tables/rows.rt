@@ -7,9 +7,10 @@ ghost use Rattle.sqlite.specs.declared.error.Error.TheVariants.{SqliteFailure};
 ghost use Rattle.sqlite.specs.declared.error.ErrorCode.TheVariants.{TransactionState};
 ghost use Rattle.store_schema.specs.Schema.{schema_of};
 ghost use Rattle.store_schema.specs.declared.texts.Version.{Version};
+ghost use Rattle.store_schema.specs.declared.texts.Version.TheVariants.{Second};
 ghost use Rattle.store_reads.specs.Reads.{IsNotOfTables, OnlyReads, ShowsSame};
 ghost use Rattle.store_reads.specs.Tables.{AddsTable, AreRead, AreReceiptsRead, HasOtherRow, IsIn, StoresEach, tables_of};
-ghost use Rattle.store_reads.specs.Versions.{has_quantity};
+ghost use Rattle.store_reads.specs.Versions.{has_quantity, HasTableQuantity};
 
 use crate::decoding::{Table, decode_all, decode_receipts};
 use crate::tables::queries::{query_receipts, query_table};
@@ -152,14 +153,16 @@ fn has_meta<S: Alter>(conn: &Connection<S>) -> bool
 
 // Whether there is a table `quantity`.
 fn has_quantity<S: Alter>(conn: &Connection<S>) -> bool
-    ensures { (version : Version) → (state S.Store conn.now).now.schema ≡ schema_of version → result ≡ has_quantity version }
+    ensures version { (version : Version) → (state S.Store conn.now).now.schema ≡ schema_of version → result ≡ has_quantity version }
+    ensures there { HasTableQuantity (state S.Store conn.now).now.schema → IsTrue result }
 {
     conn.schema().table_named(b"quantity").is_some()
 }
 
 // Which tables there are.
 fn version_in<S: Alter>(conn: &Connection<S>) -> Version
-    ensures { (version : Version) → (state S.Store conn.now).now.schema ≡ schema_of version → result ≡ version }
+    ensures version { (version : Version) → (state S.Store conn.now).now.schema ≡ schema_of version → result ≡ version }
+    ensures second { HasTableQuantity (state S.Store conn.now).now.schema → result ≡ Second }
 {
     if has_quantity(conn) {
         Version::Second
@@ -185,6 +188,7 @@ pub fn read_rows<S: Alter>(
     ensures reads { OnlyReads (state S.Store conn.old) (state S.Store conn.new) }
     ensures is_open { HasCleanDisk (state S.Store conn.new) → OnOk result (IsTrue (state S.Store conn.new).is_open) }
     ensures version { IfOk result (λ found. IfSome found (λ tables. (version : Version) → (state S.Store conn.old).now.schema ≡ schema_of version → tables.version ≡ version)) }
+    ensures second { IfOk result (λ found. IfSome found (λ tables. HasTableQuantity (state S.Store conn.old).now.schema → tables.version ≡ Second)) }
     ensures rows { HasCleanDisk (state S.Store conn.new) → IsTrue (state S.Store conn.new).is_open → (version : Version) → (state S.Store conn.new).committed.schema ≡ schema_of version → IfOk result (λ found. MatchOption found (HasOtherRow version (state S.Store conn.new).committed.trees) (λ tables. (tables.version ≡ version) × StoresEach version tables.rows.items tables.receipts.items (state S.Store conn.new).committed)) }
     ensures understood { HasCleanDisk (state S.Store conn.new) → IsTrue (state S.Store conn.new).is_open → (version : Version) → (state S.Store conn.new).committed.schema ≡ schema_of version → IfErr result IsNotOfTables }
 {

@@ -1,7 +1,6 @@
 use Rattle.std.proofs.Common.{◌≡◌, ap}
 use Rattle.sqlite.specs.Held.{state}
 use Rattle.plan_basics.specs.declared.Refusal.{Refusal}
-use Rattle.store_schema.specs.declared.texts.Version.TheVariants.{Second}
 use Rattle.desk_tables.specs.Desk.{IsClean}
 use Rattle.desk_tables.proofs.BroughtUp.{first_both, handed_on, kept_both, nothing_brought, open_both, reads_both, survives_both, tables_both, told_both, undone_both}
 use Rattle.desk_tables.proofs.opening.opened_state.Goals as goal
@@ -32,7 +31,7 @@ returns-in_err-bring_up-clause-survives g c =
 pub returns-in_err-bring_up-clause-reads : goal.returns-in_err-bring_up-clause-reads
 returns-in_err-bring_up-clause-reads g c has =
     reads_both (state g.S.Store c.args.conn.now) (state g.S.Store c.stored_state.new.conn) (state g.S.Store c.bring_up.new.conn) (record { plan = c.in_ok-stored.stored.plan.plan; receipts = c.in_ok-stored.stored.receipts }) c.in_ok-stored.stored.version
-    c.in_ok-stored.ensures.reads c.in_ok-stored.ensures.is_open c.in_ok-stored.ensures.tables (λ is. ap (state g.S.Store) (c.in_err-bring_up.ensures.second is).0) c.in_err-bring_up.ensures.crash (c.in_ok-stored.ensures.version Second has)
+    c.in_ok-stored.ensures.reads c.in_ok-stored.ensures.is_open c.in_ok-stored.ensures.tables (λ is. ap (state g.S.Store) (c.in_err-bring_up.ensures.second is).0) c.in_err-bring_up.ensures.crash (c.in_ok-stored.ensures.second has)
 
 pub returns-in_err-bring_up-clause-kept : goal.returns-in_err-bring_up-clause-kept
 returns-in_err-bring_up-clause-kept g c clean is_open =
@@ -63,7 +62,7 @@ returns-clause-survives g c =
 pub returns-clause-reads : goal.returns-clause-reads
 returns-clause-reads g c has =
     reads_both (state g.S.Store c.args.conn.now) (state g.S.Store c.stored_state.new.conn) (state g.S.Store c.bring_up.new.conn) (record { plan = c.in_ok-stored.stored.plan.plan; receipts = c.in_ok-stored.stored.receipts }) c.in_ok-stored.stored.version
-    c.in_ok-stored.ensures.reads c.in_ok-stored.ensures.is_open c.in_ok-stored.ensures.tables (λ is. ap (state g.S.Store) (c.in_ok-bring_up.ensures.second is).0) c.in_ok-bring_up.ensures.crash (c.in_ok-stored.ensures.version Second has)
+    c.in_ok-stored.ensures.reads c.in_ok-stored.ensures.is_open c.in_ok-stored.ensures.tables (λ is. ap (state g.S.Store) (c.in_ok-bring_up.ensures.second is).0) c.in_ok-bring_up.ensures.crash (c.in_ok-stored.ensures.second has)
 
 pub returns-clause-kept : goal.returns-clause-kept
 returns-clause-kept g c clean is_open =

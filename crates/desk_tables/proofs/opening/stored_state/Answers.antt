@@ -10,6 +10,9 @@ returns-in_err-read-clause-damaged g c = handed_on _ c.from_residual.result c.in
 pub returns-in-Some-clause-version : goal.returns-in-Some-clause-version
 returns-in-Some-clause-version g c version has = c.in_ok-tables.ensures.version ∙ c.in_ok-read.ensures.version version has
 
+pub returns-in-Some-clause-second : goal.returns-in-Some-clause-second
+returns-in-Some-clause-second g c has = c.in_ok-tables.ensures.version ∙ c.in_ok-read.ensures.second has
+
 pub returns-in-Some-clause-tables : goal.returns-in-Some-clause-tables
 returns-in-Some-clause-tables g c clean version has =
     let read = c.in_ok-read.read in

@@ -1,4 +1,4 @@
-use Rattle.std.proofs.Common.{◌≡◌, ◌⊎◌, rules, refl, ap, sym, subst, ◌∙◌, true, None, Some}
+use Rattle.std.proofs.Common.{◌≡◌, ◌⊎◌, rules, refl, ap, sym, subst, ◌∙◌, true, IsTrue, None, Some}
 use Rattle.sqlite.specs.Held.{state}
 use Rattle.sqlite.specs.State.{Survives}
 use Rattle.plan_basics.specs.declared.Refusal.TheVariants as refusal
@@ -7,7 +7,7 @@ use Rattle.plan_core.specs.State.{IsPreparedFor, PlanState, plan_after}
 use Rattle.tracker_receipts.specs.plan_laws.proofs.Receipts.{answer_keeps_receipts}
 use Rattle.plan_records.specs.Answer.{accepted, answer_of, refused}
 use Rattle.plan_records.specs.Run.{Answers, plain}
-use Rattle.plan_records.specs.Schedules.{IsDeskState, stopped}
+use Rattle.plan_records.specs.Schedules.{IsDeskState, stop, stopped}
 use Rattle.plan_records.specs.Step.{Step}
 use Rattle.desk_tables.specs.Calls.{change_of, state_after}
 use Rattle.desk_tables.specs.Desk.{DeskState, HasTables, IsCarriedOut, IsKept, state_of, usability}
@@ -15,7 +15,7 @@ use Rattle.desk_tables.specs.Stops.{AreLeftBy, StopsLeave}
 use Rattle.desk_tables.specs.declared.calls.PreparedCall.TheVariants.{Plain}
 use Rattle.desk_tables.proofs.Answered.{carried_answers, carried_starts, none_starts, plain_not_prepared}
 use Rattle.desk_tables.proofs.Held.{prepared_carries, step_survives}
-use Rattle.desk_tables.proofs.Stopped.{none_stops, step_stops}
+use Rattle.desk_tables.proofs.Stopped.{desk_stands, none_stops, step_stops}
 use Rattle.plan_writes.specs.Within.{LeavesMade, Rewrites}
 use Rattle.desk_tables.proofs.desk.Desk.call.Goals as goal
 
@@ -116,3 +116,24 @@ returns-in-Err-clause-stops g c is_open has =
     let same = ap (λ (s : PlanState). (let d : DeskState _ = record { plan = s.plan; receipts = c.self.inside.receipts; is_usable = c.self.inside.is_usable; conn = c.self.inside.conn } in d)) c.prepare.ensures.unchanged ∙ c.self.view_is in
     let stays = none_stops (state g.S.Store old.conn) (λ trees may. g.met.S.Store.settled old.conn.store trees is_open may) (state_of old) (λ clean. kept.tables (clean, is_open) has) (usability old.is_usable) call in
     subst (λ (d : DeskState _). StopsLeave (state g.S.Store d.conn) (AreLeftBy (state_of old) (Some (usability old.is_usable)) (stopped call None))) (sym same) stays
+
+-- ---- a stop after it
+
+pub returns-in-Ok-clause-stops_after : goal.returns-in-Ok-clause-stops_after
+returns-in-Ok-clause-stops_after g c =
+    let new = c.carry_out.new.self in
+    desk_stands (state g.S.Store new.conn) (λ is_open trees may. g.met.S.Store.settled new.conn.store trees is_open may) (state_of new) (Some (usability new.is_usable)) c.carry_out.ensures.holds
+
+pub returns-then-not-self-clause-stops_after : goal.returns-then-not-self-clause-stops_after
+returns-then-not-self-clause-stops_after g c =
+    let old = c.args.self.now in
+    let kept = subst (IsKept g.S.Store) c.self.view_is c.self.invariant in
+    desk_stands (state g.S.Store old.conn) (λ is_open trees may. g.met.S.Store.settled old.conn.store trees is_open may) (state_of old) (Some (usability old.is_usable)) kept.tables
+
+pub returns-in-Err-clause-stops_after : goal.returns-in-Err-clause-stops_after
+returns-in-Err-clause-stops_after g c =
+    let old = c.args.self.now in
+    let kept = subst (IsKept g.S.Store) c.self.view_is c.self.invariant in
+    let same = ap (λ (s : PlanState). (let d : DeskState _ = record { plan = s.plan; receipts = c.self.inside.receipts; is_usable = c.self.inside.is_usable; conn = c.self.inside.conn } in d)) c.prepare.ensures.unchanged ∙ c.self.view_is in
+    let stays = desk_stands (state g.S.Store old.conn) (λ is_open trees may. g.met.S.Store.settled old.conn.store trees is_open may) (state_of old) (Some (usability old.is_usable)) kept.tables in
+    subst (λ (d : DeskState _). IsTrue (state g.S.Store d.conn).is_open → HasTables (state g.S.Store d.conn) → StopsLeave (state g.S.Store d.conn) (AreLeftBy (state_of d) (Some (usability d.is_usable)) stop)) (sym same) stays

@@ -1,4 +1,4 @@
-use Rattle.std.proofs.Common.{◌≡◌, ◌⊎◌, rules, ap, sym, subst, ◌∙◌, true, None, Some}
+use Rattle.std.proofs.Common.{◌≡◌, ◌⊎◌, rules, ap, sym, subst, ◌∙◌, true, IsTrue, None, Some}
 use Rattle.std.specs.FinMap.{get}
 use Rattle.sqlite.specs.Held.{state}
 use Rattle.sqlite.specs.State.{Survives}
@@ -9,7 +9,7 @@ use Rattle.plan_core.specs.State.{PlanState, plan_after}
 use Rattle.tracker_receipts.specs.plan_laws.proofs.Receipts.{answer_keeps_receipts}
 use Rattle.plan_records.specs.Answer.{accepted, answer_of, refused}
 use Rattle.plan_records.specs.Run.{Answers, CallStep, numbered}
-use Rattle.plan_records.specs.Schedules.{IsDeskState, stopped}
+use Rattle.plan_records.specs.Schedules.{IsDeskState, stop, stopped}
 use Rattle.plan_records.specs.Step.{AnswersAgain}
 use Rattle.desk_tables.specs.Calls.{change_of, state_after}
 use Rattle.desk_tables.specs.Desk.{DeskState, HasTables, IsCarriedOut, IsKept, state_of, usability}
@@ -17,7 +17,7 @@ use Rattle.desk_tables.specs.Stops.{AreLeftBy, StopsLeave}
 use Rattle.desk_tables.specs.declared.calls.PreparedCall.TheVariants.{Numbered}
 use Rattle.desk_tables.proofs.Answered.{again_answers, carried_answers, carried_starts, never_again, none_starts, not_prepared}
 use Rattle.desk_tables.proofs.Held.{numbered_step, prepared_carries, step_survives}
-use Rattle.desk_tables.proofs.Stopped.{none_stops, step_stops}
+use Rattle.desk_tables.proofs.Stopped.{desk_stands, none_stops, step_stops}
 use Rattle.plan_writes.specs.Within.{LeavesMade, Rewrites}
 use Rattle.tracker_receipts.specs.Judging.{numbered_by}
 use Rattle.desk_tables.proofs.desk.Desk.call_numbered.Goals as goal
@@ -163,3 +163,32 @@ returns-in-Err-clause-stops g c is_open has =
     let same = ap (λ (s : PlanState). (let d : DeskState _ = record { plan = s.plan; receipts = c.self.inside.receipts; is_usable = c.self.inside.is_usable; conn = c.self.inside.conn } in d)) c.prepare_numbered.ensures.unchanged ∙ c.self.view_is in
     let stays = none_stops (state g.S.Store old.conn) (λ trees may. g.met.S.Store.settled old.conn.store trees is_open may) (state_of old) (λ clean. kept.tables (clean, is_open) has) (usability old.is_usable) call in
     subst (λ (d : DeskState _). StopsLeave (state g.S.Store d.conn) (AreLeftBy (state_of old) (Some (usability old.is_usable)) (stopped call None))) (sym same) stays
+
+-- ---- a stop after it
+
+pub returns-in-Ok-New-clause-stops_after : goal.returns-in-Ok-New-clause-stops_after
+returns-in-Ok-New-clause-stops_after g c =
+    let new = c.carry_out.new.self in
+    desk_stands (state g.S.Store new.conn) (λ is_open trees may. g.met.S.Store.settled new.conn.store trees is_open may) (state_of new) (Some (usability new.is_usable)) c.carry_out.ensures.holds
+
+pub returns-then-not-self-clause-stops_after : goal.returns-then-not-self-clause-stops_after
+returns-then-not-self-clause-stops_after g c =
+    let old = c.args.self.now in
+    let kept = subst (IsKept g.S.Store) c.self.view_is c.self.invariant in
+    desk_stands (state g.S.Store old.conn) (λ is_open trees may. g.met.S.Store.settled old.conn.store trees is_open may) (state_of old) (Some (usability old.is_usable)) kept.tables
+
+pub returns-in-Ok-Again-clause-stops_after : goal.returns-in-Ok-Again-clause-stops_after
+returns-in-Ok-Again-clause-stops_after g c =
+    let old = c.args.self.now in
+    let kept = subst (IsKept g.S.Store) c.self.view_is c.self.invariant in
+    let same = ap (λ (s : PlanState). (let d : DeskState _ = record { plan = s.plan; receipts = c.self.inside.receipts; is_usable = c.self.inside.is_usable; conn = c.self.inside.conn } in d)) c.prepare_numbered.ensures.unchanged ∙ c.self.view_is in
+    let stays = desk_stands (state g.S.Store old.conn) (λ is_open trees may. g.met.S.Store.settled old.conn.store trees is_open may) (state_of old) (Some (usability old.is_usable)) kept.tables in
+    subst (λ (d : DeskState _). IsTrue (state g.S.Store d.conn).is_open → HasTables (state g.S.Store d.conn) → StopsLeave (state g.S.Store d.conn) (AreLeftBy (state_of d) (Some (usability d.is_usable)) stop)) (sym same) stays
+
+pub returns-in-Err-clause-stops_after : goal.returns-in-Err-clause-stops_after
+returns-in-Err-clause-stops_after g c =
+    let old = c.args.self.now in
+    let kept = subst (IsKept g.S.Store) c.self.view_is c.self.invariant in
+    let same = ap (λ (s : PlanState). (let d : DeskState _ = record { plan = s.plan; receipts = c.self.inside.receipts; is_usable = c.self.inside.is_usable; conn = c.self.inside.conn } in d)) c.prepare_numbered.ensures.unchanged ∙ c.self.view_is in
+    let stays = desk_stands (state g.S.Store old.conn) (λ is_open trees may. g.met.S.Store.settled old.conn.store trees is_open may) (state_of old) (Some (usability old.is_usable)) kept.tables in
+    subst (λ (d : DeskState _). IsTrue (state g.S.Store d.conn).is_open → HasTables (state g.S.Store d.conn) → StopsLeave (state g.S.Store d.conn) (AreLeftBy (state_of d) (Some (usability d.is_usable)) stop)) (sym same) stays

@@ -40,3 +40,6 @@ returns-in-Ok-clause-tables g c clean told has =
     let late : HasCleanDisk (state g.S.Store old.conn) = omega (arith, clean, c.write_call.ensures.crash.clean) in
     let had = subst (λ (d : DeskState _). HasTables (state g.S.Store d.conn)) (sym c.self.view_is) has in
     carried_held g.S.Store old c.self.invariant p is t led new done late had
+
+pub returns-in-Ok-clause-holds : goal.returns-in-Ok-clause-holds
+returns-in-Ok-clause-holds g c = (invariant_of-self g c).tables
