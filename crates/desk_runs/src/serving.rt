@@ -1,4 +1,7 @@
 // `serve`: the desk of a database's file over HTTP, so many connections, one after another.
+ghost use Rattle.std.specs.Prelude.{None};
+ghost use Rattle.tracker_http.specs.Exchange.{Ends};
+
 use super::timed::TimedStream;
 use clap::ArgMatches;
 use command_answers::{Ending, Fault, WireFault, tell_no_desk};
@@ -13,13 +16,15 @@ use std::rt::HostRuntime;
 use std::time::Instant;
 use tracker_http::{Desk, serve_one};
 
-/// Serves the one exchange of a connection. A client that keeps it longer than its time is a fault of the reader or the
-/// writer.
+/// Serves the one exchange of a connection, whose bytes no clause knows. A client that keeps it longer than its time is a
+/// fault of the reader or the writer.
 fn serve_connection<S: Alter + Drop>(
     rt: &HostRuntime,
     stream: &TcpStream,
     desk: &mut Desk<S>,
-) -> Result<(), WireFault> {
+) -> Result<(), WireFault>
+    ensures { Ends S.Store result None desk.old desk.new None None }
+{
     let Ok(begun) = Instant::now(rt) else {
         return Err(WireFault::Reader);
     };

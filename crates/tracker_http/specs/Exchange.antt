@@ -1,7 +1,9 @@
--- An exchange: from the bytes of a connection and a desk to the bytes of the reply and the desk after it.
+-- An exchange: from the bytes of a connection, known or not, and a desk to the bytes of the reply and the desk after it.
 use Rattle.std.specs.Prelude.{◌≡◌, ◌⊎◌, ℕ, Bool, false, List, Option, IfSome, IsTrue, Result, Ok, Err}
 use Rattle.std.specs.Io.KnownBytes.{Keeps, Appends}
+use Rattle.sqlite.specs.Held.{state}
 use Rattle.sqlite.specs.State.{State as StoreState, HasCleanDisk}
+use Rattle.sqlite.specs.Store.{Ghosts}
 use Rattle.http_messages.specs.Tests.{status_of as status_of_test}
 use Rattle.http_messages.specs.Tests as head
 use Rattle.http_messages.specs.declared.asking.Asked.{Asked}
@@ -79,21 +81,25 @@ told_may_have_shut _ = false
 abbrev pub StaysOpen : StoreState → StoreState → Told → Type 0
 StaysOpen old new x = HasCleanDisk new → IsTrue old.is_open → told_may_have_shut x ≡ false → IsTrue new.is_open
 
--- the input of a connection leads to this output, and from this state of the desk to that one; and of what is told this is so
-abbrev pub Exchange : (Told → Type 0) → List ℕ → Seen → List ℕ → Seen → Type 0
-Exchange IsSo input s output t = (found : Result Asked Rejection) × (x : Told) × head.Answers input found × Replies found s x t × (output ≡ reply_of x) × IsSo x
+-- this is told of a request: of what it asks for, or of the first test that it fails; where the input is known, that is what the input says
+abbrev pub IsTold : Option (List ℕ) → Seen → Told → Seen → Type 0
+IsTold known s x t = (found : Result Asked Rejection) × IfSome known (λ input. head.Answers input found) × Replies found s x t
 
--- where the input is known: it leads to an output of which this is so, and from this state of the desk to that one
-abbrev pub Exchanges : (Told → Type 0) → Option (List ℕ) → Seen → Seen → (List ℕ → Type 0) → Type 0
-Exchanges IsSo known s t IsWritten = IfSome known (λ input. (output : List ℕ) × Exchange IsSo input s output t × IsWritten output)
+-- a connection's input, where it is known, leads to this output, and from this desk to that one: what is told is written, and the store stays open
+abbrev pub Exchange : {S : Type 0} → Ghosts S → Option (List ℕ) → DeskState S → List ℕ → DeskState S → Type 0
+Exchange g known d output e = (x : Told) × IsTold known (seen d) x (seen e) × StaysOpen (state g d.conn) (state g e.conn) x × (output ≡ reply_of x)
 
--- how an exchange ends: by what the reader held, the desk before and after, and the writer's bytes before and after; of what is told this is so
-abbrev pub Ends : {U : Type 0} → (Told → Type 0) → Result U WireFault → Option (List ℕ) → Seen → Seen → Option (List ℕ) → Option (List ℕ) → Type 0
+-- it leads to an output of which this is so
+abbrev pub Exchanges : {S : Type 0} → Ghosts S → Option (List ℕ) → DeskState S → DeskState S → (List ℕ → Type 0) → Type 0
+Exchanges g known d e IsWritten = (output : List ℕ) × Exchange g known d output e × IsWritten output
+
+-- how an exchange ends: by what the reader held, if that is known, the desk before and after, and the writer's bytes before and after
+abbrev pub Ends : {S : Type 0} → {U : Type 0} → Ghosts S → Result U WireFault → Option (List ℕ) → DeskState S → DeskState S → Option (List ℕ) → Option (List ℕ) → Type 0
 -- the whole reply is written
-Ends IsSo (Ok _) known s t old new = Exchanges IsSo known s t (Appends old new)
+Ends g (Ok _) known d e old new = Exchanges g known d e (Appends old new)
 -- nothing is written, and nothing changes
-Ends IsSo (Err fault.Reader) known s t old new = (t ≡ s) × Keeps old new
+Ends g (Err fault.Reader) known d e old new = (e ≡ d) × Keeps old new
 -- a beginning of the reply is written, and the request acted as the reply says
-Ends IsSo (Err fault.Writer) known s t old new = Exchanges IsSo known s t (AppendsBeginning old new)
+Ends g (Err fault.Writer) known d e old new = Exchanges g known d e (AppendsBeginning old new)
 -- nothing is written; the request acted as some reply says, or nothing changes
-Ends IsSo (Err fault.Memory) known s t old new = Keeps old new × ((t ≡ s) ⊎ Exchanges IsSo known s t (λ _. Unit {0}))
+Ends g (Err fault.Memory) known d e old new = Keeps old new × ((e ≡ d) ⊎ Exchanges g known d e (λ _. Unit {0}))

@@ -1,14 +1,11 @@
 // One exchange: a request is read, the desk answers it, the reply is written.
-ghost use Rattle.std.specs.Prelude.{◌≡◌, ◌↔◌, ◌⊎◌, Err, true, false, IfOk, IfErr, OnOk, OnErr, IfSome, Result, ⊤};
+ghost use Rattle.std.specs.Prelude.{◌≡◌, ◌↔◌, ◌⊎◌, Err, true, false, IfOk, IfErr, OnOk, OnErr, ⊤};
 ghost use Rattle.sqlite.specs.Held.{state};
 ghost use Rattle.sqlite.specs.State.{Survives};
 ghost use Rattle.desk_tables.specs.Desk.{state_of, HoldsState, IsClean};
 ghost use Rattle.std.specs.Io.KnownBytes.{Appends};
-ghost use Rattle.http_messages.specs.Tests.{Answers};
-ghost use Rattle.http_messages.specs.declared.asking.Asked.{Asked};
-ghost use Rattle.http_messages.specs.declared.asking.Rejection.{Rejection};
 ghost use Rattle.plan_basics.specs.Watched.{inner_of, failed_of, AppendsBeginning};
-ghost use Rattle.tracker_http.specs.Exchange.{seen, Replies, Ends, StaysOpen};
+ghost use Rattle.tracker_http.specs.Exchange.{seen, IsTold, Ends, StaysOpen};
 
 use super::asking::tell;
 use super::told::Told;
@@ -26,8 +23,7 @@ fn told_to<R: Read, S: Alter + Drop>(
     reader: &mut Watched<R>,
     desk: &mut Desk<S>,
 ) -> Result<Told, WireFault>
-    ensures told { IfOk result (λ told. IfSome (R.remaining (inner_of reader.old))
-        (λ input. (found : Result Asked Rejection) × Answers input found × Replies found (seen desk.old) told (seen desk.new))) }
+    ensures told { IfOk result (λ told. IsTold (R.remaining (inner_of reader.old)) (seen desk.old) told (seen desk.new)) }
     ensures reader_fault { (result ≡ Err WireFault.Reader) ↔ (failed_of reader.new ≡ true) }
     ensures others { IfErr result (λ fault. (fault ≡ WireFault.Reader) ⊎ (fault ≡ WireFault.Memory)) }
     ensures stays_open { IfOk result (StaysOpen (state S.Store desk.old.conn) (state S.Store desk.new.conn)) }
@@ -67,16 +63,17 @@ fn send<W: Write>(writer: &mut Watched<W>, reply: &[u8]) -> Result<(), WireFault
 /// a beginning of the reply is written, and the request acted as the reply says. `Memory` for want of memory: nothing
 /// is written, and the request may have acted, which a tracker learns by repeating it.
 ///
-/// Where the tables held what the desk holds and the store is clean afterwards, they hold what the desk holds then
-/// (`tables`). Where the disk returns what was written, a store that was open is, unless the reply is `Memory` or `Store`
-/// (`ends`).
+/// Of each reader, a socket too, the reply and the desk after it are those of some request, or of some test that it fails;
+/// where the bytes are known, of what they say (`ends`). Where the tables held what the desk holds and the store is clean
+/// afterwards, they hold what the desk holds then (`tables`); and where the disk returns what was written, a store that was
+/// open is, unless the desk answered `Memory` or `Store` (`ends`).
 pub fn serve_one<R: Read, W: Write, S: Alter + Drop>(
     alloc: Global,
     reader: &mut Watched<R>,
     writer: &mut Watched<W>,
     desk: &mut Desk<S>,
 ) -> Result<(), WireFault>
-    ensures ends { Ends (StaysOpen (state S.Store desk.old.conn) (state S.Store desk.new.conn)) result (R.remaining (inner_of reader.old)) (seen desk.old) (seen desk.new) (W.contents (inner_of writer.old)) (W.contents (inner_of writer.new)) }
+    ensures ends { Ends S.Store result (R.remaining (inner_of reader.old)) desk.old desk.new (W.contents (inner_of writer.old)) (W.contents (inner_of writer.new)) }
     ensures tables { HoldsState (state_of desk.old) (state S.Store desk.old.conn).committed → IsClean (state S.Store desk.new.conn) → HoldsState (state_of desk.new) (state S.Store desk.new.conn).committed }
     ensures clean { IsClean (state S.Store desk.new.conn) → IsClean (state S.Store desk.old.conn) }
     ensures survives { Survives (state S.Store desk.old.conn) (state S.Store desk.new.conn) (λ _. ⊤) }

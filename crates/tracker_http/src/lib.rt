@@ -17,7 +17,7 @@ mod exchange;
 mod lists;
 mod told;
 
-pub use desk_tables::Desk;
+pub use desk_tables::{Desk, open_again};
 pub use exchange::serve_one;
 pub use plan_records::Reply;
 pub use request_json::{WireFault, read_operator};
