@@ -11,6 +11,7 @@ use Rattle.plan_basics.specs.declared.Refusal.{Refusal}
 use Rattle.plan_basics.specs.declared.Refusal.TheVariants as refusal
 use Rattle.plan_model.specs.Contents.{Contents}
 use Rattle.plan_reports.specs.store_reads.specs.Reads.{OnlyReads}
+use Rattle.plan_reports.specs.store_reads.specs.Versions.{HasTableQuantity}
 use Rattle.plan_records.specs.Answer.{Answer, accepted, refused}
 use Rattle.plan_records.specs.Run.{Answers, CallStep, State, empty_state, plain, usable}
 use Rattle.plan_records.specs.Step.{Step}
@@ -18,9 +19,10 @@ use Rattle.plan_records.specs.declared.Request.{Request}
 use Rattle.store_schema.specs.Schema.{desk_schema, first_schema, schema_of}
 use Rattle.store_schema.specs.declared.texts.Version.{Version}
 use Rattle.store_schema.specs.declared.texts.Version.TheVariants.{First, Second}
-use Rattle.plan_reports.specs.desk_tables.specs.Desk.{DeskState, HasFirstTables, HasTables, HoldsNoStateIn, HoldsState, IsClean, state_of, usability}
+use Rattle.plan_reports.specs.desk_tables.specs.Desk.{DeskState, HasFirstTables, HasTables, HoldsNoStateIn, HoldsState, state_of, usability}
 use Rattle.plan_reports.specs.desk_tables.specs.Opening.{IsOpenedFirst}
 use Rattle.plan_reports.specs.desk_tables.proofs.Held.{brought_up}
+use Rattle.plan_reports.specs.desk_tables.proofs.Stopped.{desk_has_quantity}
 use Rattle.plan_reports.specs.desk_tables.specs.Faults.{IsOpeningRefusal}
 use Rattle.plan_reports.specs.desk_tables.specs.Shut.{IsOpenAfter, may_have_shut}
 use Rattle.desk_commands.specs.Databases.{HasNoTable, HasSchema, IsAnswerToLoad, IsDamaged, IsForDesk, IsStateAt, load_request}
@@ -44,21 +46,21 @@ module _ (old new : StoreState) where
   }
 
   -- that of a desk that was opened
-  pub opened_state : ¬ HasNoTable old.now.schema → (s : State) → (HasCleanDisk new → IsTrue new.is_open) → (HasCleanDisk new → IsTrue old.is_open) → (IsTrue old.is_open → HasTables old → OnlyReads old new) → (HasCleanDisk new → HasTables new → HoldsState s new.committed)
+  pub opened_state : ¬ HasNoTable old.now.schema → (s : State) → (HasCleanDisk new → IsTrue new.is_open) → (HasCleanDisk new → IsTrue old.is_open) → (IsTrue old.is_open → HasTableQuantity old.committed.schema → OnlyReads old new) → (HasCleanDisk new → HasTables new → HoldsState s new.committed)
       → (HasCleanDisk new → HasFirstTables old → IsOpenedFirst s old new) → IsStateAt old new s
   opened_state some s is_open was_open reads holds brought = record {
     made = λ none. absurd (some none);
     opened = λ clean. elim [
       | First ↦ λ has. (brought clean has.1).held
       | Second ↦ λ has.
-          let same = ((reads (was_open clean) has.1).kept clean).committed (is_open clean) in
+          let same = ((reads (was_open clean) (desk_has_quantity old.committed has.1)).kept clean).committed (is_open clean) in
           subst (HoldsState s) same (holds clean (ap (λ (db : Database). db.schema) same ∙ has.1))
     ];
   }
 
   -- a desk's tables stay where it is opened
-  pub opened_same : (HasCleanDisk new → IsTrue new.is_open) → (HasCleanDisk new → IsTrue old.is_open) → (IsTrue old.is_open → HasTables old → OnlyReads old new) → HasCleanDisk new → HasSchema old desk_schema → new.committed ≡ old.committed
-  opened_same is_open was_open reads clean has = ((reads (was_open clean) has.1).kept clean).committed (is_open clean)
+  pub opened_same : (HasCleanDisk new → IsTrue new.is_open) → (HasCleanDisk new → IsTrue old.is_open) → (IsTrue old.is_open → HasTableQuantity old.committed.schema → OnlyReads old new) → HasCleanDisk new → HasSchema old desk_schema → new.committed ≡ old.committed
+  opened_same is_open was_open reads clean has = ((reads (was_open clean) (desk_has_quantity old.committed has.1)).kept clean).committed (is_open clean)
 
   -- those of the first version are then those of the second
   pub opened_first : (s : State) → (HasCleanDisk new → HasFirstTables old → IsOpenedFirst s old new) → HasCleanDisk new → HasSchema old first_schema → HoldsState s new.committed
@@ -75,17 +77,25 @@ module _ (old new : StoreState) where
     λ version has. subst (HoldsNoStateIn version) same (none version (ap (λ (db : Database). db.schema) same ∙ has.1)),
   )
 
--- so it is of what came of an opening: the state of the desk, and what the tables hold that were those of the first version
+-- so it is of what came of an opening: the state of the desk, and what the tables hold, of either version
 module _ {S : Type 0} (shown : Connected S → StoreState) (old : StoreState) where
   pub state_told : (r : Result (DeskState S) (Refusal × Connected S)) → ¬ HasNoTable old.now.schema
       → IfOk r (λ desk. HasCleanDisk (shown desk.conn) → IsTrue (shown desk.conn).is_open)
       → IfOk r (λ desk. HasCleanDisk (shown desk.conn) → IsTrue old.is_open)
-      → IfOk r (λ desk. IsTrue old.is_open → HasTables old → OnlyReads old (shown desk.conn))
+      → IfOk r (λ desk. IsTrue old.is_open → HasTableQuantity old.committed.schema → OnlyReads old (shown desk.conn))
       → IfOk r (λ desk. HasCleanDisk (shown desk.conn) → HasTables (shown desk.conn) → HoldsState (state_of desk) (shown desk.conn).committed)
       → IfOk r (λ desk. HasCleanDisk (shown desk.conn) → HasFirstTables old → IsOpenedFirst (state_of desk) old (shown desk.conn))
       → IfOk r (λ desk. IsStateAt old (shown desk.conn) (state_of desk))
   state_told (Ok desk) some is_open kept reads holds brought = opened_state old (shown desk.conn) some (state_of desk) is_open kept reads holds brought
   state_told (Err e) some is_open kept reads holds brought = tt
+
+  pub same_told : (r : Result (DeskState S) (Refusal × Connected S))
+      → IfOk r (λ desk. HasCleanDisk (shown desk.conn) → IsTrue (shown desk.conn).is_open)
+      → IfOk r (λ desk. HasCleanDisk (shown desk.conn) → IsTrue old.is_open)
+      → IfOk r (λ desk. IsTrue old.is_open → HasTableQuantity old.committed.schema → OnlyReads old (shown desk.conn))
+      → IfOk r (λ desk. HasCleanDisk (shown desk.conn) → HasSchema old desk_schema → (shown desk.conn).committed ≡ old.committed)
+  same_told (Ok desk) is_open kept reads = opened_same old (shown desk.conn) is_open kept reads
+  same_told (Err e) is_open kept reads = tt
 
   pub first_told : (r : Result (DeskState S) (Refusal × Connected S))
       → IfOk r (λ desk. HasCleanDisk (shown desk.conn) → HasFirstTables old → IsOpenedFirst (state_of desk) old (shown desk.conn))
@@ -95,11 +105,12 @@ module _ {S : Type 0} (shown : Connected S → StoreState) (old : StoreState) wh
 
 -- so it is told where none could be opened
 pub damaged_told : (D C : Type 0) (state_of_it : C → StoreState) (old : StoreState) (r : Result D (Refusal × C)) → ¬ HasNoTable old.now.schema
-    → IfErr r (λ e. IsClean (state_of_it e.1) → (state_of_it e.1).committed ≡ old.committed)
-    → IfErr r (λ e. e.0 ≡ refusal.Damaged → IsClean (state_of_it e.1) → (version : Version) → (state_of_it e.1).committed.schema ≡ schema_of version → HoldsNoStateIn version (state_of_it e.1).committed)
-    → IfErr r (λ e. e.0 ≡ refusal.Damaged → IsClean (state_of_it e.1) → IsDamaged old)
-damaged_told D C state_of_it old (Ok d) some undone none = tt
-damaged_told D C state_of_it old (Err e) some undone none = λ is clean. damaged_opened old (state_of_it e.1) some (undone clean) (none is clean)
+    → IfErr r (λ e. HasCleanDisk (state_of_it e.1) → IsOpenAfter (refused e.0) (state_of_it e.1) → (state_of_it e.1).committed ≡ old.committed)
+    → IfErr r (λ e. e.0 ≡ refusal.Damaged → HasCleanDisk (state_of_it e.1) → IsTrue (state_of_it e.1).is_open)
+    → IfErr r (λ e. e.0 ≡ refusal.Damaged → HasCleanDisk (state_of_it e.1) → (version : Version) → (state_of_it e.1).committed.schema ≡ schema_of version → HoldsNoStateIn version (state_of_it e.1).committed)
+    → IfErr r (λ e. e.0 ≡ refusal.Damaged → HasCleanDisk (state_of_it e.1) → IsDamaged old)
+damaged_told D C state_of_it old (Ok d) some undone still none = tt
+damaged_told D C state_of_it old (Err e) some undone still none = λ is clean. damaged_opened old (state_of_it e.1) some (undone clean (λ _. still is clean)) (none is clean)
 
 -- what isn't a step at a usable desk is want of memory or a fault of the store, and no damage
 pub refused_step : (X : Type 0) (s t : State) (q : Request) (v : Bool) (r : Refusal) → Answers s usable (plain q) (refused r) t (usability v)
@@ -138,12 +149,12 @@ module _ (old mid new : StoreState) (s t : State) (at : ℤ) (draft : Option Con
     λ clean has. let was = is_open (late clean) in (stays clean was refl, holds clean was (λ shut. absurd (false≢true shut)) (has_tables (late clean) has)),
   )
   load_of (refused r) answers stays holds kept = (
-    elim (refused_step (IsClean new → IsDamaged old) s t (load_request at draft) v r answers) [
+    elim (refused_step (HasCleanDisk new → IsTrue new.is_open × IsDamaged old) s t (load_request at draft) v r answers) [
       | inl why ↦ inl why
       | inr step ↦ inr (s, state_kept, step)
     ],
-    λ clean has. kept clean.0 r refl (λ _. clean.1) ∙ opened (late clean.0) has,
-    λ clean has. inr (s, state_kept, subst (HoldsState s) (sym (kept clean.0 r refl (λ _. clean.1))) (brought (late clean.0) has)),
+    λ clean told has. kept clean r refl told ∙ opened (late clean) has,
+    λ clean told has. inr (s, state_kept, subst (HoldsState s) (sym (kept clean r refl told)) (brought (late clean) has)),
   )
 
   pub load_answered : (x : Answer) → Answers s (usability u) (plain (load_request at draft)) x t (usability v)

@@ -1,17 +1,21 @@
 -- What is shown of a request and of a report that were asked for.
-use Rattle.std.proofs.Common.{◌≡◌, ◌⊎◌, refl, inl, inr, ℕ, ℤ, Bool, List, Option, Result, Err, IfOk, IfErr}
+use Rattle.std.proofs.Common.{◌≡◌, ◌⊎◌, refl, inl, inr, rules, ℕ, ◌<◌, ℤ, Bool, List, [], ◌∷◌, ◌++◌, length, map, Option, Result, Err, IfOk, IfErr}
 use Rattle.std.proofs.lemmas.Result.{IfErr-weaker, IfOk-weaker}
 use Rattle.plan_basics.specs.Minutes.{IsMinuteText}
 use Rattle.plan_basics.specs.declared.Refusal.{Refusal}
+use Rattle.plan_basics.specs.declared.Refusal.TheVariants as refusal
 use Rattle.plan_model.specs.Contents.{AddedParts}
 use Rattle.plan_model.specs.Plan.{Plan}
-use Rattle.plan_records.specs.Answer.{Answer, refused}
-use Rattle.plan_records.specs.Run.{Answers, State, Usable, plain}
+use Rattle.plan_records.specs.Answer.{Answer, answer_of, refused}
+use Rattle.plan_records.specs.Run.{State, Usable}
+use Rattle.plan_records.specs.Run as calls
+use Rattle.plan_records.specs.declared.Reply.{Reply}
 use Rattle.plan_records.specs.declared.Request.{Request}
 use Rattle.plan_reports.specs.desk_tables.specs.Faults.{IsOpeningRefusal}
+use Rattle.plan_reports.specs.desk_tables.specs.Runs.{AreAnswered}
 use Rattle.command_answers.specs.request_json.specs.Requests.{ReadsAsRequest}
 use Rattle.command_answers.specs.Answers.{IsShown}
-use Rattle.desk_commands.specs.Asked.{IsExtendShown, IsRequestAnswered, IsRequestShown, extend_request}
+use Rattle.desk_commands.specs.Asked.{IsAnswerTo, IsExtendShown, IsRequestAnswered, IsRequestShown, extend_request}
 use Rattle.command_answers.specs.Given.{AsksReport}
 use Rattle.desk_commands.specs.Shown.{IsReportAsked, IsReportShown}
 use Rattle.command_answers.specs.Opened.{IsWhyNoDesk, IsNoneShown}
@@ -37,6 +41,21 @@ pub unread : (X : Type 0) (r : Result Ending Fault) (f : Fault) → r ≡ Err f 
 unread X r f is (inl memory) = rw (is, memory) (inl refl)
 unread X r f is (inr none) = rw is (inr none)
 
+-- there is an answer to a request that is a run by itself, and it is the one reply
+module _ (s t : State) (u v : Usable) (q : Request) where
+  pub one_reply : (replies : List Reply) → AreAnswered s u (q ∷ []) (map answer_of replies) t v → 0 < length replies
+  one_reply [] run = absurd run
+  one_reply (r ∷ replies) run = search rules
+
+  pub answered_alone : (others : List Reply) (r : Reply) → AreAnswered s u (q ∷ []) (map answer_of (others ++ r ∷ [])) t v → IsAnswerTo q (answer_of r)
+  answered_alone [] r run = inl (s, u, run.0, run.1, run.2)
+  answered_alone (x ∷ []) r run = absurd run.3
+  answered_alone (x ∷ y ∷ others) r run = absurd run.3
+
+-- want of memory for the list of replies is want of memory at a desk
+pub memory_alone : (s : State) (q : Request) (r : Refusal) → r ≡ refusal.Memory → IsAnswerTo q (refused r)
+memory_alone s q r is = rw is (inl (s, calls.usable, s, calls.usable, (refl, refl)))
+
 -- no request, where that is the fault
 pub no_request : (X : Type 0) (f : Fault) → f ≡ fault.Request → (f ≡ fault.Memory) ⊎ ((f ≡ fault.Request) × X) → X
 no_request X f is (inl memory) = absurd (cc)
@@ -44,11 +63,10 @@ no_request X f is (inr none) = none.1
 
 module _ (r : Result Ending Fault) (old new : Option (List ℕ)) where
   -- a desk's answer to a request
-  pub request_answered : (q : Request) (s : State) (u : Usable) (a : Answer) (t : State) (v : Usable)
-      → Answers s u (plain q) a t v → IfOk r (IsShown a old new) → IfOk r (IsRequestAnswered q old new)
-  request_answered q s u a t v answers shown =
+  pub request_answered : (q : Request) (a : Answer) → IsAnswerTo q a → IfOk r (IsShown a old new) → IfOk r (IsRequestAnswered q old new)
+  request_answered q a answers shown =
       IfOk-weaker r (IsShown a old new) (IsRequestAnswered q old new)
-      (λ (e : Ending) (is : IsShown a old new e). (a, inl (s, u, t, v, answers), is)) shown
+      (λ (e : Ending) (is : IsShown a old new e). (a, answers, is)) shown
 
   -- why no desk could be opened for it
   pub request_refused : (q : Request) (none : NoDesk) → IsWhyNoDesk IsOpeningRefusal none → IfOk r (IsNoneShown none old new) → IfOk r (IsRequestAnswered q old new)

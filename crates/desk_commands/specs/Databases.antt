@@ -10,8 +10,9 @@ use Rattle.plan_records.specs.Answer.{Answer, accepted, refused}
 use Rattle.plan_records.specs.Run.{CallStep, State, empty_state, plain}
 use Rattle.store_schema.specs.Schema.{first_schema, desk_schema, schema_of}
 use Rattle.store_schema.specs.declared.texts.Version.{Version}
-use Rattle.plan_reports.specs.desk_tables.specs.Desk.{HoldsNoStateIn, HoldsState, HoldsStateIn, IsClean}
+use Rattle.plan_reports.specs.desk_tables.specs.Desk.{HoldsNoStateIn, HoldsState, HoldsStateIn}
 use Rattle.plan_reports.specs.desk_tables.specs.Faults.{IsOpeningRefusal}
+use Rattle.plan_reports.specs.desk_tables.specs.Shut.{IsOpenAfter}
 use Rattle.plan_records.specs.declared.Request.{Request}
 use Rattle.plan_records.specs.declared.What.TheVariants.{Load}
 
@@ -40,12 +41,12 @@ IsForDesk s = HasSchema s no_schema ⊎ ((version : Version) × HasSchema s (sch
 abbrev pub load_request : ℤ → Option Contents → Request
 load_request at draft = record { at = at; what = Load draft }
 
--- the load of a draft at a minute is answered as at the plan of the database's desk, and where it is accepted the store is open and the tables hold the plan after it; or the tables are no plan's, which is told of such tables alone, memory lacks, or the store failed. What is refused leaves a desk's tables as they were, where the store is open; those of the first version, or those of the second in their place that hold the same
+-- the load of a draft at a minute is answered as at the plan of the database's desk, and where it is accepted the store is open and the tables hold the plan after it; or the tables are no plan's, which is told of such tables alone, memory lacks, or the store failed. What is refused leaves a desk's tables as they were, where the store is open, as it is after any refusal but `Memory` and `Store`; those of the first version, or those of the second in their place that hold the same
 abbrev pub IsAnswerToLoad : StoreState → StoreState → ℤ → Option Contents → Answer → Type 0
 IsAnswerToLoad old new at draft (accepted named) =
     (before : State) × (after : State) × IsStateAt old new before × CallStep before (plain (load_request at draft)) (accepted named) after
     × (HasCleanDisk new → IsForDesk old → IsTrue new.is_open × HoldsState after new.committed)
 IsAnswerToLoad old new at draft (refused r) =
-    ((IsOpeningRefusal r × (r ≡ refusal.Damaged → IsClean new → IsDamaged old)) ⊎ ((before : State) × IsStateAt old new before × CallStep before (plain (load_request at draft)) (refused r) before))
-    × (IsClean new → HasSchema old desk_schema → new.committed ≡ old.committed)
-    × (IsClean new → HasSchema old first_schema → (new.committed ≡ old.committed) ⊎ ((before : State) × IsStateAt old new before × HoldsState before new.committed))
+    ((IsOpeningRefusal r × (r ≡ refusal.Damaged → HasCleanDisk new → IsTrue new.is_open × IsDamaged old)) ⊎ ((before : State) × IsStateAt old new before × CallStep before (plain (load_request at draft)) (refused r) before))
+    × (HasCleanDisk new → IsOpenAfter (refused r) new → HasSchema old desk_schema → new.committed ≡ old.committed)
+    × (HasCleanDisk new → IsOpenAfter (refused r) new → HasSchema old first_schema → (new.committed ≡ old.committed) ⊎ ((before : State) × IsStateAt old new before × HoldsState before new.committed))

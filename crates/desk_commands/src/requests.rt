@@ -2,7 +2,8 @@
 ghost use Rattle.std.specs.Prelude.{◌≡◌, ◌⊎◌, IfOk, IfErr, codes};
 ghost use Rattle.clap.specs.Matches.{found_of};
 ghost use Rattle.plan_basics.specs.Watched.{inner_of};
-ghost use Rattle.desk_commands.specs.Asked.{IsExtendShown, IsRequestAnswered, IsRequestShown};
+ghost use Rattle.plan_records.specs.Answer.{answer_of};
+ghost use Rattle.desk_commands.specs.Asked.{IsAnswerTo, IsExtendShown, IsRequestAnswered, IsRequestShown};
 ghost use Rattle.command_answers.specs.Given.{IsNoMinute, IsNoRequest};
 ghost use Rattle.command_answers.specs.Statuses.{IsOfSurroundings};
 ghost use Rattle.command_words.specs.Words.{text_given};
@@ -15,11 +16,22 @@ use command_answers::{
 };
 use command_words::value_of;
 use plan_basics::Watched;
-use plan_records::{Request, What};
-use plan_reports::Desk;
+use plan_records::{Reply, Request, What};
+use plan_reports::{Desk, run_all};
 use sqlite::{Alter, Connection};
 use std::io::Write;
 use std::rt::HostRuntime;
+use std::slice;
+
+// What a desk answers to a request, which is a run by itself.
+fn reply_to<S: Alter + Drop>(desk: &mut Desk<S>, request: &Request) -> Reply
+    ensures { IsAnswerTo request.now (answer_of result) }
+{
+    match run_all(desk, slice::from_ref(request)) {
+        Ok(mut replies) => replies.pop().unwrap(),
+        Err(refusal) => Reply::Refused(refusal),
+    }
+}
 
 // Has a desk answer a request, shows the answer and closes the database. What is shown stands also where that fails.
 fn answer<S: Alter + Drop, W: Write>(
@@ -33,7 +45,7 @@ where
     ensures fault { IfErr result IsOfSurroundings }
 {
     let mut desk = desk;
-    let reply = desk.call(request);
+    let reply = reply_to(&mut desk, request);
     let told = tell(out, &reply);
     close_desk(desk)?;
     told

@@ -10,7 +10,7 @@ mod reports;
 mod rows;
 mod texts;
 
-pub use desk_tables::{Desk, answer_alone};
+pub use desk_tables::{Desk, answer_alone, run_all};
 pub use laws::one_text;
 pub use reports::{
     ReportFault, error_report, late_report, occurrence_report, ready_report, why_report,

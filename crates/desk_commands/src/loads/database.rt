@@ -4,12 +4,13 @@ ghost use Rattle.std.specs.List.{list_any};
 ghost use Rattle.sqlite.specs.Held.{state};
 ghost use Rattle.sqlite.specs.State.{HasCleanDisk};
 ghost use Rattle.plan_basics.specs.declared.Refusal.{Refusal};
-ghost use Rattle.plan_records.specs.Answer.{answer_of};
+ghost use Rattle.plan_records.specs.Answer.{answer_of, refused};
 ghost use Rattle.plan_records.specs.Run.{empty_state};
 ghost use Rattle.desk_commands.specs.Databases.{HasNoTable, HasSchema, IsAnswerToLoad, IsDamaged, IsStateAt};
 ghost use Rattle.store_schema.specs.Schema.{desk_schema, first_schema};
-ghost use Rattle.plan_reports.specs.desk_tables.specs.Desk.{state_of, HoldsState, IsClean};
+ghost use Rattle.plan_reports.specs.desk_tables.specs.Desk.{state_of, HoldsState};
 ghost use Rattle.plan_reports.specs.desk_tables.specs.Faults.{IsOpeningRefusal};
+ghost use Rattle.plan_reports.specs.desk_tables.specs.Shut.{IsOpenAfter};
 ghost use Rattle.store_schema.specs.Tables.{no_schema};
 
 use plan_basics::Refusal;
@@ -47,8 +48,9 @@ fn desk_of<S: Alter + Drop>(
     ensures opened { IfOk result (λ desk. HasCleanDisk (state S.Store desk.conn) → HasSchema (state S.Store conn) desk_schema → (state S.Store desk.conn).committed ≡ (state S.Store conn).committed) }
     ensures opened_first { IfOk result (λ desk. HasCleanDisk (state S.Store desk.conn) → HasSchema (state S.Store conn) first_schema → HoldsState (state_of desk) (state S.Store desk.conn).committed) }
     ensures refused { IfErr result (λ e. IsOpeningRefusal e.0) }
-    ensures damaged { IfErr result (λ e. e.0 ≡ Refusal.Damaged → IsClean (state S.Store e.1) → IsDamaged (state S.Store conn)) }
-    ensures unchanged { IfErr result (λ e. IsClean (state S.Store e.1) → (state S.Store e.1).committed ≡ (state S.Store conn).committed) }
+    ensures still_open { IfErr result (λ e. e.0 ≡ Refusal.Damaged → HasCleanDisk (state S.Store e.1) → IsTrue (state S.Store e.1).is_open) }
+    ensures damaged { IfErr result (λ e. e.0 ≡ Refusal.Damaged → HasCleanDisk (state S.Store e.1) → IsDamaged (state S.Store conn)) }
+    ensures unchanged { IfErr result (λ e. HasCleanDisk (state S.Store e.1) → IsOpenAfter (refused e.0) (state S.Store e.1) → (state S.Store e.1).committed ≡ (state S.Store conn).committed) }
 {
     if has_no_table(&conn) {
         Desk::create(alloc, conn)

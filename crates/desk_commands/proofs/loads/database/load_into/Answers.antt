@@ -1,15 +1,13 @@
-use Rattle.std.proofs.Common.{◌≡◌, w64, FitsSigned, arith, inl, rules, to_z-of_z}
+use Rattle.std.proofs.Common.{w64, FitsSigned, arith, inl, to_z-of_z}
 use Rattle.sqlite.specs.Held.{state}
 use Rattle.plan_records.specs.Answer.{answer_of}
-use Rattle.plan_reports.specs.desk_tables.specs.Desk.{state_of, IsClean}
+use Rattle.plan_reports.specs.desk_tables.specs.Desk.{state_of}
 use Rattle.desk_commands.proofs.LoadedDatabases.{load_answered}
 use Rattle.desk_commands.proofs.loads.database.load_into.Goals as goal
 
 pub returns-in-Err : goal.returns-in-Err
 returns-in-Err g c =
-    let new = state g.S.Store c.in-Err.conn in
-    let same : IsClean new → new.committed ≡ (state g.S.Store c.args.conn).committed = search rules in
-    (inl (search rules, search rules), λ clean has. same clean, λ clean has. inl (same clean))
+    (inl (c.in-Err.ensures.refused, λ is clean. (c.in-Err.ensures.still_open is clean, c.in-Err.ensures.damaged is clean)), λ clean told has. c.in-Err.ensures.unchanged clean told, λ clean told has. inl (c.in-Err.ensures.unchanged clean told))
 
 pub returns : goal.returns
 returns g c =
