@@ -35,13 +35,37 @@ impl Stop {
     }
 }
 
-/// How the files stand after a stop.
+/// How the files stand after a stop: as they were last synced, where they lose what wasn't, or as they were last written.
 #[derive(Clone, Copy, Debug)]
-pub enum End {
-    /// As they were last written: the process was killed.
-    Killed,
-    /// As they were last synced: the power was cut.
-    PowerCut,
+pub struct End {
+    log_loses: bool,
+    db_loses: bool,
+}
+
+impl End {
+    /// The process was killed.
+    pub const KILLED: End = End {
+        log_loses: false,
+        db_loses: false,
+    };
+
+    /// The power was cut.
+    pub const POWER_CUT: End = End {
+        log_loses: true,
+        db_loses: true,
+    };
+
+    /// The power was cut, and of the database's file all is there that was written.
+    pub const LOG_LOSES: End = End {
+        log_loses: true,
+        db_loses: false,
+    };
+
+    /// The power was cut, and of the log all is there that was written.
+    pub const DATABASE_LOSES: End = End {
+        log_loses: false,
+        db_loses: true,
+    };
 }
 
 // A file with these bytes, which passes each call on.
@@ -53,7 +77,7 @@ fn sound_file(alloc: Global, bytes: &[u8]) -> io::Result<Fuse<Memory>> {
     Ok(file)
 }
 
-// The files as they were last written, on a disk that works.
+// The files as they stand, on a disk that works.
 fn copied(alloc: Global, files: &FusedFiles) -> io::Result<FusedFiles> {
     Ok(Files {
         log: sound_file(alloc, files.log.inner().bytes())?,
@@ -63,10 +87,29 @@ fn copied(alloc: Global, files: &FusedFiles) -> io::Result<FusedFiles> {
 
 /// The connection to these files; or the files, where it can't be had.
 pub fn connected(alloc: Global, files: FusedFiles) -> Result<Connection<FusedStore>, FusedFiles> {
+    connected_so(alloc, files, Options::new(7))
+}
+
+/// The same, of which each transaction first copies what the log holds into the database's file.
+pub fn connected_copying(
+    alloc: Global,
+    files: FusedFiles,
+) -> Result<Connection<FusedStore>, FusedFiles> {
+    let mut options = Options::new(7);
+    options.checkpoint_frames = 1;
+    connected_so(alloc, files, options)
+}
+
+// The connection to these files with these options.
+fn connected_so(
+    alloc: Global,
+    files: FusedFiles,
+    options: Options,
+) -> Result<Connection<FusedStore>, FusedFiles> {
     if !files.log.may_be_used() || !files.db.may_be_used() {
         return Err(files);
     }
-    match Connection::open_files(alloc, files, Options::new(7)) {
+    match Connection::open_files(alloc, files, options) {
         Ok(conn) => Ok(conn),
         Err((_, left)) => Err(left.into_files()),
     }
@@ -121,18 +164,23 @@ pub fn files_of(conn: Connection<FusedStore>) -> FusedFiles {
     conn.into_store().close()
 }
 
+// A file after the stop, where it may lose what wasn't synced.
+fn end_file(file: &mut Fuse<Memory>, loses: bool) {
+    if loses {
+        file.crash();
+    }
+}
+
 /// The connection to what was left of the files, on a disk that works.
 pub fn connected_again(
     alloc: Global,
     mut files: FusedFiles,
     end: End,
 ) -> Option<Connection<FusedStore>> {
-    match end {
-        End::Killed => connected(alloc, copied(alloc, &files).ok()?).ok(),
-        End::PowerCut => {
-            files.log.crash();
-            files.db.crash();
-            connected(alloc, files).ok()
-        }
+    end_file(&mut files.log, end.log_loses);
+    end_file(&mut files.db, end.db_loses);
+    match copied(alloc, &files) {
+        Ok(copy) => connected(alloc, copy).ok(),
+        Err(_) => None,
     }
 }

@@ -55,8 +55,8 @@ fn opened<S: Alter + Drop>(alloc: Global, conn: Connection<S>) -> Option<Connect
 
 // Whether a desk answers the rest of the night as it says.
 fn plays_rest<S: Alter + Drop>(alloc: Global, desk: &mut Desk<S>) -> bool {
-    for step in &REST {
-        if make(alloc, desk, step) != Told::Done {
+    for line in REST.lines() {
+        if make(alloc, desk, line) != Told::Done {
             return false;
         }
     }

@@ -1,7 +1,7 @@
 // What comes of one stop: how the desk answers from then on, what is found when it is opened again, and how the script
 // ends.
 use super::disks::{End, FusedFiles, Stop, begun, connected_again, files_of};
-use super::script::{STEPS, Told, is_reopen, make, written};
+use super::script::{SCRIPT, Told, is_reopen, make, written};
 use plan_basics::Refusal;
 use sqlite::{Alter, Connection};
 use std::alloc::Global;
@@ -11,9 +11,11 @@ use wires::{get, lacks_all, tables_text};
 /// What comes of a stop.
 #[derive(Clone, Copy, Debug, PartialEq)]
 pub enum StopOutcome {
-    /// The script ended before it.
+    /// What is stopped ended before it.
     NoStop,
-    /// The tables were as before the step that was stopped, or after it, and the script went on to its end.
+    /// What is stopped hadn't begun.
+    Earlier,
+    /// The tables were as before the step that was stopped, or after it, and what is stopped went on to its end.
     Recovered,
     /// What goes otherwise.
     Otherwise(&'static str),
@@ -42,8 +44,8 @@ fn is_list_refused<S: Alter + Drop>(alloc: Global, desk: &mut Desk<S>, path: &st
 
 // Whether a desk whose store failed refuses what is asked then: the steps from this one on, and both lists.
 fn refuses_all<S: Alter + Drop>(alloc: Global, desk: &mut Desk<S>, at: usize) -> bool {
-    for step in STEPS.iter().skip(at) {
-        if make(alloc, desk, step) != Told::Reopen {
+    for line in SCRIPT.lines().skip(at) {
+        if make(alloc, desk, line) != Told::Reopen {
             return false;
         }
     }
@@ -62,9 +64,10 @@ fn stopped<S: Alter + Drop>(alloc: Global, desk: &mut Desk<S>, at: usize) -> Ran
 
 // Where a desk's store fails in the steps, if it does; or that a step is answered otherwise.
 fn failing_step<S: Alter + Drop>(alloc: Global, desk: &mut Desk<S>) -> Result<Option<usize>, ()> {
-    for (at, step) in STEPS.iter().enumerate() {
-        match make(alloc, desk, step) {
-            Told::Done => {}
+    let mut at = 0usize;
+    for line in SCRIPT.lines() {
+        match make(alloc, desk, line) {
+            Told::Done => at = at.saturating_add(1),
             Told::Store => return Ok(Some(at)),
             _ => return Err(()),
         }
@@ -132,8 +135,8 @@ fn desk_over<S: Alter + Drop>(alloc: Global, conn: Connection<S>, text: &[u8]) -
 
 // Whether a desk answers the steps from this one on as they say; a load that is in already is refused.
 fn goes_on<S: Alter + Drop>(alloc: Global, desk: &mut Desk<S>, first: usize) -> bool {
-    for step in STEPS.iter().skip(first) {
-        match make(alloc, desk, step) {
+    for line in SCRIPT.lines().skip(first) {
+        match make(alloc, desk, line) {
             Told::Done => {}
             Told::Loaded => {}
             _ => return false,

@@ -5,133 +5,31 @@ use plan_basics::Watched;
 use sqlite::{Alter, Connection, MemStore};
 use std::alloc::Global;
 use tracker_http::{Desk, serve_one};
-use wires::{After, NIGHT, Paper, Pieces, Report, post, reply, tables_text};
+use wires::{After, NIGHT, Paper, Pieces, post, reply, tables_text};
 
-/// A step after the making of the tables: what an operator asks by a body, or else a report of T1 on an operation; and the
-/// body of its reply.
-pub struct Step {
-    body: &'static str,
-    number: u64,
-    at: &'static str,
-    verb: &'static str,
-    op: &'static str,
-    told: &'static str,
-}
-
-const CHECKS: &str = concat!(
-    "{\"at\":\"2024-03-01T22:45\",\"do\":\"extend\",\"records\":\"",
-    "O,CHECKS,2024-03-01T22:00,5,2024-03-02T05:00,,,,,\\n",
-    "P,CHECKS,2024-03-01T22:00,90,DUMM,1,0,0,,\\n",
-    "D,PAYROLL,2024-03-01T22:00,5,CHECKS,2024-03-01T22:00,90,,,\\n",
-    "N,CHECKS,2024-03-01T22:00,90,CUSTFILE,S,F,2,,\\n",
-    "\"}",
-);
-
-const AUDITS: &str = concat!(
-    "{\"at\":\"2024-03-01T22:50\",\"do\":\"extend\",\"records\":\"",
-    "O,AUDITS,2024-03-01T22:00,5,2024-03-02T05:00,,,,,\\n",
-    "P,AUDITS,2024-03-01T22:00,90,DUMM,1,0,0,,\\n",
-    "D,PAYROLL,2024-03-01T22:00,5,AUDITS,2024-03-01T22:00,90,,,\\n",
-    "N,AUDITS,2024-03-01T22:00,90,CUSTFILE,S,F,2,,\\n",
-    "\"}",
-);
-
-/// The steps. One that an operator asks may be asked again, once it is carried out: the load is refused then, and what came in
-/// leaves and comes in again.
-pub const STEPS: [Step; 7] = [
-    Step {
-        body: NIGHT,
-        number: 0,
-        at: "",
-        verb: "",
-        op: "",
-        told: "{\"named\":[]}",
-    },
-    Step {
-        body: "",
-        number: 1,
-        at: "22:00",
-        verb: "started",
-        op: "005",
-        told: "{\"named\":[]}",
-    },
-    Step {
-        body: "",
-        number: 2,
-        at: "22:10",
-        verb: "ended",
-        op: "005",
-        told: "{\"named\":[\"PAYROLL/2024-03-01T22:00/010\"]}",
-    },
-    Step {
-        body: "",
-        number: 3,
-        at: "22:11",
-        verb: "started",
-        op: "010",
-        told: "{\"named\":[]}",
-    },
-    Step {
-        body: "",
-        number: 4,
-        at: "22:40",
-        verb: "ended",
-        op: "010",
-        told: "{\"named\":[\"PAYROLL/2024-03-01T22:00/020\"]}",
-    },
-    Step {
-        body: CHECKS,
-        number: 0,
-        at: "",
-        verb: "",
-        op: "",
-        told: "{\"named\":[]}",
-    },
-    Step {
-        body: AUDITS,
-        number: 0,
-        at: "",
-        verb: "",
-        op: "",
-        told: "{\"named\":[]}",
-    },
-];
+/// The steps after the making of the tables, a line each: where a request is sent, and its body; and what its reply says. NIGHT
+/// stands for the body that loads the night at 21:00. A step that an operator asks may be asked again, once it is carried out:
+/// the load is refused then, and what came in leaves and comes in again.
+pub const SCRIPT: &str = r#"/operator NIGHT | {"named":[]}
+/report {"tracker":"T1","number":1,"at":"2024-03-01T22:00","do":"started","op":"PAYROLL/2024-03-01T22:00/005"} | {"named":[]}
+/report {"tracker":"T1","number":2,"at":"2024-03-01T22:10","do":"ended","op":"PAYROLL/2024-03-01T22:00/005"} | {"named":["PAYROLL/2024-03-01T22:00/010"]}
+/report {"tracker":"T1","number":3,"at":"2024-03-01T22:11","do":"started","op":"PAYROLL/2024-03-01T22:00/010"} | {"named":[]}
+/report {"tracker":"T1","number":4,"at":"2024-03-01T22:40","do":"ended","op":"PAYROLL/2024-03-01T22:00/010"} | {"named":["PAYROLL/2024-03-01T22:00/020"]}
+/operator {"at":"2024-03-01T22:45","do":"extend","records":"O,CHECKS,2024-03-01T22:00,5,2024-03-02T05:00,,,,,\nP,CHECKS,2024-03-01T22:00,90,DUMM,1,0,0,,\nD,PAYROLL,2024-03-01T22:00,5,CHECKS,2024-03-01T22:00,90,,,\nN,CHECKS,2024-03-01T22:00,90,CUSTFILE,S,F,2,,\n"} | {"named":[]}
+/operator {"at":"2024-03-01T22:50","do":"extend","records":"O,AUDITS,2024-03-01T22:00,5,2024-03-02T05:00,,,,,\nP,AUDITS,2024-03-01T22:00,90,DUMM,1,0,0,,\nD,PAYROLL,2024-03-01T22:00,5,AUDITS,2024-03-01T22:00,90,,,\nN,AUDITS,2024-03-01T22:00,90,CUSTFILE,S,F,2,,\n"} | {"named":[]}"#;
 
 /// The steps after the reports, when the bills have come in: the second run ends, and then the printing.
-pub const REST: [Step; 2] = [
-    Step {
-        body: "",
-        number: 5,
-        at: "23:40",
-        verb: "ended",
-        op: "020",
-        told: "{\"named\":[\"BILLING/2024-03-01T22:00/010\"]}",
-    },
-    Step {
-        body: "",
-        number: 6,
-        at: "23:50",
-        verb: "ended",
-        op: "040",
-        told: "{\"named\":[]}",
-    },
-];
+pub const REST: &str =
+    r#"/report {"tracker":"T1","number":5,"at":"2024-03-01T23:40","do":"ended","op":"PAYROLL/2024-03-01T22:00/020"} | {"named":["BILLING/2024-03-01T22:00/010"]}
+/report {"tracker":"T1","number":6,"at":"2024-03-01T23:50","do":"ended","op":"PAYROLL/2024-03-01T22:00/040"} | {"named":[]}"#;
 
-impl Step {
-    /// The request that makes it.
-    pub fn request(&self, alloc: Global) -> Option<String> {
-        if !self.body.is_empty() {
-            return post(alloc, "/operator", self.body);
-        }
-        let report = Report {
-            tracker: "T1",
-            number: self.number,
-            at: self.at,
-            verb: self.verb,
-            op: self.op,
-        };
-        report.request(alloc)
-    }
+// The request of a line, and the body that its reply is to have.
+fn request_of<'a>(alloc: Global, line: &'a str) -> Option<(String, &'a str)> {
+    let (sent, reply) = line.split_once(" | ")?;
+    let (path, body) = sent.split_once(' ')?;
+    let (told, _) = reply.split_once(" | ").unwrap_or((reply, ""));
+    let body = if body == "NIGHT" { NIGHT } else { body };
+    Some((post(alloc, path, body)?, told))
 }
 
 /// What a desk writes for a request; nothing where the exchange fails.
@@ -159,10 +57,10 @@ fn is_reply(alloc: Global, bytes: &[u8], status: &str, body: &str) -> bool {
     }
 }
 
-/// How a desk answers a step.
+/// How a desk answers a request.
 #[derive(Clone, Copy, Debug, PartialEq)]
 pub enum Told {
-    /// As the step says.
+    /// As its line says.
     Done,
     /// That a plan is loaded already.
     Loaded,
@@ -179,11 +77,11 @@ pub fn is_reopen(alloc: Global, bytes: &[u8]) -> bool {
     is_reply(alloc, bytes, "503 Service Unavailable", body)
 }
 
-// Which answer these bytes are to a step.
-fn told_by(alloc: Global, step: &Step, bytes: &[u8]) -> Told {
+// Which answer these bytes are to a request whose reply is to have this body.
+fn told_by(alloc: Global, told: &str, bytes: &[u8]) -> Told {
     let loaded = "{\"name\":\"Loaded\",\"refusal\":4}";
     let store = "{\"name\":\"Store\",\"refusal\":26}";
-    if is_reply(alloc, bytes, "200 OK", step.told) {
+    if is_reply(alloc, bytes, "200 OK", told) {
         Told::Done
     } else if is_reply(alloc, bytes, "409 Conflict", loaded) {
         Told::Loaded
@@ -196,26 +94,26 @@ fn told_by(alloc: Global, step: &Step, bytes: &[u8]) -> Told {
     }
 }
 
-/// How a desk answers a step.
-pub fn make<S: Alter + Drop>(alloc: Global, desk: &mut Desk<S>, step: &Step) -> Told {
-    let input = match step.request(alloc) {
-        Some(input) => input,
+/// How a desk answers the request of a line.
+pub fn make<S: Alter + Drop>(alloc: Global, desk: &mut Desk<S>, line: &str) -> Told {
+    let (input, told) = match request_of(alloc, line) {
+        Some(request) => request,
         None => return Told::Otherwise,
     };
     match written(alloc, desk, &input) {
-        Some(bytes) => told_by(alloc, step, &bytes),
+        Some(bytes) => told_by(alloc, told, &bytes),
         None => Told::Otherwise,
     }
 }
 
-// The desk over a connection, after a step that is answered as it says.
-fn after_step(
+// The desk over a connection, after the request of a line that is answered as it says.
+fn after_line(
     alloc: Global,
     conn: Connection<MemStore>,
-    step: &Step,
+    line: &str,
 ) -> Option<Connection<MemStore>> {
     let mut desk = Desk::open(alloc, conn).ok()?;
-    let told = make(alloc, &mut desk, step);
+    let told = make(alloc, &mut desk, line);
     if told == Told::Done {
         Some(desk.close())
     } else {
@@ -232,19 +130,19 @@ fn made(alloc: Global) -> Option<Connection<MemStore>> {
 /// The connection to the tables after all steps.
 pub fn whole(alloc: Global) -> Option<Connection<MemStore>> {
     let mut conn = made(alloc)?;
-    for step in &STEPS {
-        conn = after_step(alloc, conn, step)?;
+    for line in SCRIPT.lines() {
+        conn = after_line(alloc, conn, line)?;
     }
     Some(conn)
 }
 
-/// The text of the tables once they are made, and after each step of a run without a stop.
-pub fn texts(alloc: Global) -> Option<Vec<Vec<u8>>> {
+/// The text of the tables once they are made, and after the request of each line at a desk in memory.
+pub fn texts(alloc: Global, lines: &str) -> Option<Vec<Vec<u8>>> {
     let mut texts = Vec::new(alloc);
     let mut conn = made(alloc)?;
     texts.push(tables_text(alloc, &mut conn).ok()?).ok()?;
-    for step in &STEPS {
-        conn = after_step(alloc, conn, step)?;
+    for line in lines.lines() {
+        conn = after_line(alloc, conn, line)?;
         texts.push(tables_text(alloc, &mut conn).ok()?).ok()?;
     }
     Some(texts)
