@@ -80,7 +80,7 @@ module _ (P : Contents) (o : OpKey) (op : Operation) (m : ℕ) where
 
   -- all kinds from that of the not-before on are of operations that go on by a start
   starts : (r : Reason) → 3 ≤ reason_place r → IsReasonOf P o op m r → needs_start P op ≡ true
-  starts (reason.AtRest s) high h = absurd (omega (arith, high))
+  starts (reason.AtRest x) high h = absurd (omega (arith, high))
   starts (reason.WaitsFor x) high h = absurd (omega (arith, high))
   starts reason.Held high h = absurd (omega (arith, high))
   starts (reason.TooEarly t) high h = h.0

@@ -42,7 +42,7 @@ use Rattle.workstations.specs.Workstations.{HasCapacity, IsWorkstation, Workstat
 use Rattle.workstations.specs.declared.Capacity.{Capacity}
 use Rattle.plan_reasons.specs.Laws.{EmptyWhereItMayStart}
 use Rattle.plan_reasons.specs.Places.{is_shared}
-use Rattle.plan_reasons.specs.Reasons.{IsClosedUntil, IsNextOpening, IsReasonOf, IsShortage, amount_in, amount_needed, needs_start}
+use Rattle.plan_reasons.specs.Reasons.{IsClosedUntil, IsNextOpening, IsReasonOf, IsShortage, amount_in, amount_needed, beginning_by, needs_start}
 use Rattle.plan_reasons.specs.declared.reasons.Reason.{Reason}
 use Rattle.plan_reasons.specs.declared.reasons.Reason.TheVariants as reason
 use Rattle.plan_reasons.specs.declared.reasons.Shortage.{Shortage}
@@ -149,7 +149,7 @@ module _ (P : Contents) (valid : IsValid P) (o : OpKey) (op : Operation) (is : g
   never_closed next k fit = k.2 fit.2.0 (subst (λ (w : Workstation). HasCapacity w m fit.2.0) (same_Some fit.0 k.0 (sym fit.1 ∙ k.1)) fit.2.1)
 
   no_reason : ((line : Refusal) → MayStart P o op m line) → (r : Reason) → IsReasonOf P o op m r → ⊥
-  no_reason may (reason.AtRest s) h = h.2 (may refusal.WrongStatus)
+  no_reason may (reason.AtRest x) h = h.3 (may refusal.WrongStatus)
   no_reason may (reason.WaitsFor x) h = never_waits h.0 (may refusal.WrongStatus)
   no_reason may reason.Held h = true≢false (sym h ∙ may refusal.Held)
   no_reason may (reason.TooEarly t) h = let after = may refusal.TooEarly in omega (arith, after, h.1, h.2)
@@ -188,7 +188,7 @@ module _ (P : Contents) (valid : IsValid P) (o : OpKey) (op : Operation) (is : g
     begins : MayStart P o op m refusal.WrongStatus
     begins = elim (may_start_told P valid.acyclic o op m refusal.WrongStatus) [
       | inl may ↦ may
-      | inr not ↦ let s = some_status P valid o (op, is, tt) in absurd (none (reason.AtRest s.0) (s.1, (λ waits. not_waiting (subst (HasStatus P o) waits s.1)), not))
+      | inr not ↦ let s = some_status P valid o (op, is, tt) in absurd (none (reason.AtRest (record { status = s.0; beginning = beginning_by op.mark })) (s.1, refl, (λ waits. not_waiting (subst (HasStatus P o) waits s.1)), not))
     ]
 
     -- what is there to pass by itself has passed, which is a reason

@@ -6,12 +6,12 @@ use Rattle.plan_reasons.specs.declared.reasons.Closing.{Closing}
 use Rattle.plan_reasons.specs.declared.reasons.Obstacle.{Obstacle}
 use Rattle.plan_reasons.specs.declared.reasons.Reason.{Reason}
 use Rattle.plan_reasons.specs.declared.reasons.Reason.TheVariants as reason
+use Rattle.plan_reasons.specs.declared.reasons.Rest.{Rest}
 use Rattle.plan_reasons.specs.declared.reasons.Scarcity.{Scarcity}
 use Rattle.plan_reasons.specs.declared.reasons.Shortage.{Shortage}
 use Rattle.plan_reasons.specs.declared.reasons.Supply.{Supply}
 use Rattle.plan_reasons.specs.declared.reasons.Supply.TheVariants as supply
 use Rattle.plan_reasons.specs.declared.reasons.Unsatisfied.{Unsatisfied}
-use Rattle.status_rules.specs.declared.Status.{Status}
 
 pub supply_low : (s : Supply) → supply_place s < 3
 supply_low supply.Servers = omega arith
@@ -39,8 +39,8 @@ before_by_kind a b lt = lt
 
 -- what is so of the reasons of a kind is so of each reason that has its place
 module _ (Q : Reason → Type 0) where
-  pub only_rest : ((s : Status) → Q (reason.AtRest s)) → (r : Reason) → reason_place r ≡ 0 → Q r
-  only_rest f (reason.AtRest s) e = f s
+  pub only_rest : ((x : Rest) → Q (reason.AtRest x)) → (r : Reason) → reason_place r ≡ 0 → Q r
+  only_rest f (reason.AtRest x) e = f x
   only_rest f r e = absurd (omega (arith, e))
 
   pub only_waits : ((x : Unsatisfied) → Q (reason.WaitsFor x)) → (r : Reason) → reason_place r ≡ 1 → Q r

@@ -12,3 +12,4 @@ pub mod Emptying
 pub mod PassedOver
 pub mod ReadyWaits
 pub mod TooLittle
+pub mod Sharing

@@ -19,7 +19,7 @@ use Rattle.plan_reasons.specs.Reasons.{BeginsAt, IsNextOpening}
 abbrev pub row_by : OpenInterval → ℕ × OpenInterval
 row_by x = (x.from, x)
 
-keys_by : (items : List OpenInterval) → keys_of (map row_by items) ≡ map (λ x. x.from) items
+pub keys_by : (items : List OpenInterval) → keys_of (map row_by items) ≡ map (λ x. x.from) items
 keys_by [] = refl
 keys_by (x ∷ items) = ap (λ ks. x.from ∷ ks) (keys_by items)
 

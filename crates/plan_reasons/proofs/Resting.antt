@@ -16,8 +16,9 @@ use Rattle.plan_core.specs.derived_figures.specs.Reports.{IsReported}
 use Rattle.plan_core.specs.derived_figures.specs.declared.outlines.ReportedOperation.{ReportedOperation}
 use Rattle.plan_reasons.specs.Parts.{IsOfKind}
 use Rattle.plan_reasons.specs.Places.{goes_on_from}
-use Rattle.plan_reasons.specs.Reasons.{IsReasonOf, needs_start}
+use Rattle.plan_reasons.specs.Reasons.{IsReasonOf, beginning_by, needs_start}
 use Rattle.plan_reasons.specs.declared.reasons.Reason.TheVariants as reason
+use Rattle.plan_reasons.specs.declared.reasons.Rest.{Rest}
 use Rattle.plan_reasons.proofs.Collecting.{none_of_kind, some_of_kind}
 use Rattle.plan_reasons.proofs.KindPlaces.{only_early, only_held, only_rest}
 
@@ -44,11 +45,11 @@ rests s a e = ((λ is. (cc)), refl, (λ both. let h = both.0 in (cc)))
 
 module _ (P : Contents) (o : OpKey) (m : ℕ) (x : ReportedOperation) (is : IsReported P o x) where
   module _ (goes_on : goes_on_from x.status x.attribute ≡ true) where
-    not_at_rest : (s : Status) → IsReasonOf P o x.operation.now m (reason.AtRest s) → ⊥
-    not_at_rest s h = elim (goes x.status x.attribute goes_on) [
-      | inl waits ↦ h.1 (is.alone s h.0 ∙ waits)
-      | inr (inl ready) ↦ h.2 (inl (ready_by P o x.status is.status ready))
-      | inr (inr both) ↦ h.2 (inr (subst (HasStatus P o) both.0 is.status, subst (HasAttribute P x.operation.now.workstation) both.1 is.attribute))
+    not_at_rest : (r : Rest) → IsReasonOf P o x.operation.now m (reason.AtRest r) → ⊥
+    not_at_rest r h = elim (goes x.status x.attribute goes_on) [
+      | inl waits ↦ h.2 (is.alone r.status h.0 ∙ waits)
+      | inr (inl ready) ↦ h.3 (inl (ready_by P o x.status is.status ready))
+      | inr (inr both) ↦ h.3 (inr (subst (HasStatus P o) both.0 is.status, subst (HasAttribute P x.operation.now.workstation) both.1 is.attribute))
     ]
 
     pub none_at_rest : IsOfKind P o x.operation.now m 0 None
@@ -61,10 +62,20 @@ module _ (P : Contents) (o : OpKey) (m : ℕ) (x : ReportedOperation) (is : IsRe
       | inr both ↦ (rests x.status x.attribute stays).2 (sym (is.alone status.Interrupted both.0), same_Some x.attribute attribute.StartAndCompletion (sym is.attribute ∙ both.1))
     ]
 
-    pub some_at_rest : IsOfKind P o x.operation.now m 0 (Some (reason.AtRest x.status))
+    -- its status, and what its mark tells of a start
+    abbrev its : Rest
+    its = record { status = x.status; beginning = beginning_by x.operation.now.mark }
+
+    one_rest : (r : Rest) → IsReasonOf P o x.operation.now m (reason.AtRest r) → reason.AtRest its ≡ reason.AtRest r
+    one_rest r h =
+        let status : x.status ≡ r.status = sym (is.alone r.status h.0) in
+        let start : beginning_by x.operation.now.mark ≡ r.beginning = sym h.1 in
+        λ i. reason.AtRest (record { status = status i; beginning = start i })
+
+    pub some_at_rest : IsOfKind P o x.operation.now m 0 (Some (reason.AtRest its))
     some_at_rest =
-        some_of_kind P o x.operation.now m 0 (reason.AtRest x.status) (is.status, (rests x.status x.attribute stays).0, may_not) refl
-        (only_rest (λ r. IsReasonOf P o x.operation.now m r → reason.AtRest x.status ≡ r) (λ s h. ap (λ z. reason.AtRest z) (sym (is.alone s h.0))))
+        some_of_kind P o x.operation.now m 0 (reason.AtRest its) (is.status, refl, (rests x.status x.attribute stays).0, may_not) refl
+        (only_rest (λ r. IsReasonOf P o x.operation.now m r → reason.AtRest its ≡ r) one_rest)
 
 -- ---- the hold and the not-before
 

@@ -1,3 +1,4 @@
+pub use Rattle.plan_core
 pub use Rattle.plan_drafts
 pub mod Reasons
 pub mod Order

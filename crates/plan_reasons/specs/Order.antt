@@ -16,7 +16,7 @@ supply_place supply.R2 = 2
 
 -- the kinds of reasons in the order of the lines that an operation has to meet
 abbrev pub reason_place : Reason → ℕ
-reason_place (reason.AtRest s) = 0
+reason_place (reason.AtRest x) = 0
 reason_place (reason.WaitsFor x) = 1
 reason_place reason.Held = 2
 reason_place (reason.TooEarly t) = 3

@@ -1,14 +1,20 @@
--- Parts of the list of reasons: those of one kind, and those of the first kinds.
-use Rattle.std.specs.Prelude.{◌≡◌, ◌↔◌, ℕ, ◌-◌, ◌<◌, List, AllPairs, Contains, Option, Some}
+-- Parts of the answer: the reasons of one kind, and of the first kinds; and the others that hold one special resource.
+use Rattle.std.specs.Prelude.{◌≡◌, ◌≢◌, ◌↔◌, ℕ, ◌-◌, ◌<◌, List, AllPairs, Contains, Option, Some, None}
 use Rattle.std.specs.FinMap.{get}
+use Rattle.plan_basics.specs.Keys.{Name}
 use Rattle.plan_basics.specs.declared.keys.OpKey.{OpKey}
 use Rattle.special_resources.specs.Holders.{amount_held}
 use Rattle.special_resources.specs.Holdings.{Held, HoldsIn}
 use Rattle.special_resources.specs.declared.Need.{Need}
+use Rattle.special_resources.specs.declared.holders.Holder.{Holder}
+use Rattle.plan_core.specs.derived_figures.specs.Reports.{IsOfStatus}
 use Rattle.plan_model.specs.Contents.{Contents, Operation, Resources}
+use Rattle.plan_model.specs.Status.{HasStatus}
 use Rattle.plan_model.specs.declared.Stock.{Stock}
 use Rattle.plan_reasons.specs.Order.{ComesBefore, reason_place}
-use Rattle.plan_reasons.specs.Reasons.{AreAllOthers, IsReasonOf}
+use Rattle.plan_reasons.specs.Reasons.{AreAllOthers, IsOtherHolder, IsReasonOf}
+use Rattle.plan_reasons.specs.Whys.{AreInHoldingOrder}
+use Rattle.plan_reasons.specs.declared.reasons.OtherHolder.{OtherHolder}
 use Rattle.plan_reasons.specs.declared.reasons.Reason.{Reason}
 use Rattle.plan_reasons.specs.declared.reasons.Scarcity.{Scarcity}
 
@@ -40,3 +46,19 @@ pub record AreBefore (P : Contents) (o : OpKey) (op : Operation) (m kind : ℕ) 
 -- the list goes on from kind to kind: where it had the reasons of all kinds before the first, it has those before the second
 abbrev pub GoesOn : Contents → OpKey → Operation → ℕ → ℕ → ℕ → List Reason → List Reason → Type 0
 GoesOn P o op m first second old new = AreBefore P o op m first old → AreBefore P o op m second new
+
+-- what is told of a holder: nothing where it is o itself, else it with its status
+abbrev pub IsToldOf : Contents → OpKey → Holder → Option OtherHolder → Type 0
+IsToldOf P o h None = h.operation ≡ o
+IsToldOf P o h (Some x) = (h.operation ≢ o) × (x.holder ≡ h) × IsOfStatus P h.operation x.status
+
+-- those of these holders that are others than o, in order
+pub record AreOthersAmong (P : Contents) (o : OpKey) (holders : List Holder) (found : List OtherHolder) : Type 0 where
+  pub in_order : AreInHoldingOrder found
+  pub sound : (x : OtherHolder) → Contains found x → Contains holders x.holder × (x.holder.operation ≢ o) × HasStatus P x.holder.operation x.status
+  pub complete : (x : OtherHolder) → Contains holders x.holder → x.holder.operation ≢ o → HasStatus P x.holder.operation x.status → Contains found x
+
+-- exactly the others than o that hold the special resource, in order
+pub record AreOthersOf (P : Contents) (o : OpKey) (r : Name) (found : List OtherHolder) : Type 0 where
+  pub in_order : AreInHoldingOrder found
+  pub exactly : (x : OtherHolder) → Contains found x ↔ ((x.holder.resource ≡ r) × IsOtherHolder P o x)

@@ -11,13 +11,18 @@ use Rattle.workstations.specs.declared.Capacity.{Capacity}
 use Rattle.special_resources.specs.Holders.{AreHolders, OtherHolds, Usage, amount_held}
 use Rattle.special_resources.specs.declared.Mode.TheVariants.{Shared}
 use Rattle.status_rules.specs.Table.{marked_status}
+use Rattle.status_rules.specs.declared.Mark.{Mark}
+use Rattle.status_rules.specs.declared.Mark.TheVariants as mark
 use Rattle.status_rules.specs.declared.Status.TheVariants.{Waiting}
 use Rattle.plan_model.specs.Contents.{Contents, Has, IsLive, Operation, Precedes, attribute_at}
 use Rattle.plan_model.specs.Holdings.{Holds, given_out, takes}
 use Rattle.plan_model.specs.Starts.{MayStart}
 use Rattle.plan_model.specs.declared.Stock.{Stock}
 use Rattle.plan_model.specs.Status.{HasStatus, IsSatisfied}
+use Rattle.plan_reasons.specs.declared.reasons.Beginning.{Beginning}
+use Rattle.plan_reasons.specs.declared.reasons.Beginning.TheVariants as beginning
 use Rattle.plan_reasons.specs.declared.reasons.Obstacle.{Obstacle}
+use Rattle.plan_reasons.specs.declared.reasons.OtherHolder.{OtherHolder}
 use Rattle.plan_reasons.specs.declared.reasons.Reason.{Reason}
 use Rattle.plan_reasons.specs.declared.reasons.Reason.TheVariants as reason
 use Rattle.plan_reasons.specs.declared.reasons.Scarcity.{Scarcity}
@@ -111,11 +116,26 @@ pub record IsScarce (P : Contents) (o : OpKey) (op : Operation) (x : Scarcity) :
   pub needed : x.needed ≡ usage.claim.amount
   pub lacks : x.left < x.needed
 
+-- x is another operation than o that holds the special resource so, with its status
+pub record IsOtherHolder (P : Contents) (o : OpKey) (x : OtherHolder) : Type 0 where
+  pub usage : Usage
+  pub holds : OtherHolds (Holds P) o x.holder.operation x.holder.resource usage
+  pub claim : x.holder.claim ≡ usage.claim
+  pub status : HasStatus P x.holder.operation x.status
+
+-- ---- the start
+
+-- what a mark tells of a start: the plan named the operation, its start was reported, or it isn't started
+abbrev pub beginning_by : Mark → Beginning
+beginning_by mark.Named = beginning.Named
+beginning_by mark.Running = beginning.Reported
+beginning_by other = beginning.NotStarted
+
 -- ---- the reasons
 
 -- what each reason says of o, which is this operation, at m
 abbrev pub IsReasonOf : Contents → OpKey → Operation → ℕ → Reason → Type 0
-IsReasonOf P o op m (reason.AtRest s) = HasStatus P o s × (s ≢ Waiting) × ¬ MayStart P o op m WrongStatus
+IsReasonOf P o op m (reason.AtRest x) = HasStatus P o x.status × (x.beginning ≡ beginning_by op.mark) × (x.status ≢ Waiting) × ¬ MayStart P o op m WrongStatus
 IsReasonOf P o op m (reason.WaitsFor x) = HasStatus P o Waiting × Follows P o x.op × HasStatus P x.op x.status
 IsReasonOf P o op m reason.Held = op.held ≡ true
 IsReasonOf P o op m (reason.TooEarly t) = (needs_start P op ≡ true) × (t ≡ op.not_before) × (m < t)
@@ -129,3 +149,8 @@ IsReasonOf P o op m (reason.TooLittleLeft x) = (needs_start P op ≡ true) × Is
 -- it is a reason why o, an operation of the plan, doesn't go on at m
 abbrev pub IsReason : Contents → OpKey → ℕ → Reason → Type 0
 IsReason P o m r = Has P o (λ op. IsReasonOf P o op m r)
+
+-- the special resource of which others leave too little by the reason, if it says so
+abbrev pub lacking_by : Reason → Option Name
+lacking_by (reason.TooLittleLeft x) = Some x.resource
+lacking_by r = None

@@ -13,8 +13,9 @@ ghost use Rattle.plan_core.specs.derived_figures.specs.Reports.{IsReported};
 use super::busy::{all_held, all_unavailable};
 use super::lacking::{closed, lacks};
 use super::lists::{note, note_all};
+use super::other_holders::other_holders;
 use super::predecessors::{read_for_proof, roots, waits};
-use super::reasons::{Reason, Supply, Unsatisfied};
+use super::reasons::{OtherHolder, Reason, Supply, Unsatisfied};
 use super::scarce::all_scarce;
 use super::single::{at_rest, held, needs_start, too_early};
 use plan_basics::{Moment, OpKey, Refusal};
@@ -35,6 +36,8 @@ pub struct Why {
     /// held, its not-before, its workstation, servers, R1 and R2, special resources that aren't available, holders of
     /// special resources by name and then key, and special resources of which others leave too little.
     pub reasons: Vec<Reason>,
+    /// The others that hold those special resources of which too little is left, by resource and then in key order.
+    pub holders: Vec<OtherHolder>,
     /// The operations that hold the chain that it waits for, in key order.
     pub roots: Vec<Unsatisfied>,
 }
@@ -128,8 +131,8 @@ fn reasons_at(
     Ok(reasons)
 }
 
-/// Why an operation doesn't go on at a moment: every reason, and the roots of the chain that it waits for; `None` exactly
-/// where the operation isn't in the plan. The error is always `Memory`.
+/// Why an operation doesn't go on at a moment: every reason, who holds what lacks, and the roots of the chain that it waits
+/// for; `None` exactly where the operation isn't in the plan. The error is always `Memory`.
 ///
 /// On a workstation of attribute A or S it goes on by a start, on one of attribute C by its completion, on one of
 /// attribute N, and as a NOP, by passing. It takes time linear in the plan's operations for what is given out and held, and
@@ -147,10 +150,12 @@ pub fn explain(
         return Ok(None);
     };
     let reasons = reasons_at(alloc, loaded, key, place, at)?;
+    let holders = other_holders(alloc, loaded, key, &reasons)?;
     let chain = roots(alloc, loaded, place)?;
     Ok(Some(Why {
         status: loaded.status_at(place),
         reasons,
+        holders,
         roots: chain,
     }))
 }

@@ -14,8 +14,8 @@ use plan_basics::{Moment, WsName};
 use plan_model::OperationRecord;
 use workstations::{Capacity, Workstation};
 
-// The first minute of the next interval after a moment, if there is one.
-fn next_opening(workstation: &Workstation, at: Moment) -> Option<Moment>
+/// The first minute of the next interval after a moment, if there is one.
+pub fn next_opening(workstation: &Workstation, at: Moment) -> Option<Moment>
     ensures { IsNextOpening workstation.now.1 at result }
 {
     for interval in workstation.intervals() {

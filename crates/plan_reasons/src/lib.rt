@@ -8,6 +8,7 @@ mod answer;
 mod busy;
 mod lacking;
 mod lists;
+mod other_holders;
 mod plan;
 mod predecessors;
 mod reasons;
@@ -16,8 +17,16 @@ mod single;
 mod telling;
 
 pub use answer::{Why, explain};
+pub use lacking::next_opening;
 pub use plan::why;
-pub use reasons::{Closing, Obstacle, Reason, Scarcity, Shortage, Supply, Unsatisfied};
+pub use plan_core::{
+    LoadedPlan, OpView, Ops, Plan, Prepared, UncountedContents, given_out_of, holdings_in,
+    summaries_of,
+};
+pub use reasons::{
+    Beginning, Closing, Obstacle, OtherHolder, Reason, Rest, Scarcity, Shortage, Supply,
+    Unsatisfied,
+};
 pub use telling::why_text;
 
 /// The law that of an operation on a workstation of attribute A or S no reason is listed exactly where it is allowed to

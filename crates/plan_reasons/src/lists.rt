@@ -1,24 +1,23 @@
-// The list of reasons, as it grows.
+// Lists, as they grow.
 ghost use Rattle.std.specs.Prelude.{◌≡◌, ◌++◌, OnOk};
 ghost use Rattle.std.specs.Option.{option_to_list};
 
-use super::reasons::Reason;
 use std::alloc::AllocError;
 
-/// Puts a reason at the end, if there is one.
-pub fn note(reasons: &mut Vec<Reason>, reason: Option<Reason>) -> Result<(), AllocError>
-    ensures { OnOk result (reasons.new.items ≡ reasons.old.items ++ option_to_list reason) }
+/// Puts this at the end, if it is there.
+pub fn note<T: Drop>(items: &mut Vec<T>, item: Option<T>) -> Result<(), AllocError>
+    ensures { OnOk result (items.new.items ≡ items.old.items ++ option_to_list item) }
 {
-    match reason {
-        Some(reason) => reasons.push(reason)?,
+    match item {
+        Some(item) => items.push(item)?,
         None => {}
     }
     Ok(())
 }
 
-/// Puts these reasons at the end.
-pub fn note_all(reasons: &mut Vec<Reason>, mut more: Vec<Reason>) -> Result<(), AllocError>
-    ensures { OnOk result (reasons.new.items ≡ reasons.old.items ++ more.items) }
+/// Puts these at the end.
+pub fn note_all<T: Drop>(items: &mut Vec<T>, mut more: Vec<T>) -> Result<(), AllocError>
+    ensures { OnOk result (items.new.items ≡ items.old.items ++ more.items) }
 {
-    reasons.append(&mut more)
+    items.append(&mut more)
 }

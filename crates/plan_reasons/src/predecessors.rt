@@ -56,13 +56,20 @@ fn unsatisfied_at_each(
     Ok(found)
 }
 
+// The reason to wait for this one.
+fn reason_to_wait(unsatisfied: &Unsatisfied) -> Reason
+    ensures { result ≡ Reason.WaitsFor unsatisfied.now }
+{
+    Reason::WaitsFor(*unsatisfied)
+}
+
 // The reasons to wait for these.
 fn reasons_to_wait(alloc: Global, found: &[Unsatisfied]) -> Result<Vec<Reason>, AllocError>
     ensures { IfOk result (λ reasons. reasons.items ≡ map (λ x. Reason.WaitsFor x) found.now) }
 {
     let mut reasons = Vec::with_capacity(alloc, found.len())?;
     for unsatisfied in found {
-        reasons.push(Reason::WaitsFor(*unsatisfied))?;
+        reasons.push(reason_to_wait(unsatisfied))?;
     }
     Ok(reasons)
 }

@@ -1,7 +1,7 @@
 // What keeps an operation from going on.
 
 use plan_basics::{Moment, OpKey, ResName, WsName};
-use special_resources::Mode;
+use special_resources::{Holder, Mode};
 use status_rules::Status;
 
 /// What a workstation has that operations take: servers, or the fixed resources R1 and R2.
@@ -40,6 +40,31 @@ pub struct Unsatisfied {
     pub status: Status,
 }
 
+/// What a mark tells of a start.
+#[derive(Clone, Copy, Debug, PartialEq, Eq)]
+pub enum Beginning {
+    /// The plan named the operation.
+    Named,
+    /// Its start was reported.
+    Reported,
+    /// It isn't started.
+    NotStarted,
+}
+
+/// The status of an operation from which nothing starts, and what its mark tells of a start.
+#[derive(Clone, Copy, Debug, PartialEq, Eq)]
+pub struct Rest {
+    pub status: Status,
+    pub beginning: Beginning,
+}
+
+/// Another operation that holds a special resource, and its status.
+#[derive(Clone, Copy, Debug, PartialEq, Eq)]
+pub struct OtherHolder {
+    pub holder: Holder,
+    pub status: Status,
+}
+
 /// A holding of a special resource that stands in the way.
 #[derive(Clone, Copy, Debug, PartialEq, Eq)]
 pub struct Obstacle {
@@ -64,7 +89,7 @@ pub struct Scarcity {
 #[derive(Clone, Copy, Debug, PartialEq, Eq)]
 pub enum Reason {
     /// Its status is none from which it goes on: C, D, E, S or U, or I where its workstation doesn't report starts.
-    AtRest(Status),
+    AtRest(Rest),
     /// It waits for this predecessor.
     WaitsFor(Unsatisfied),
     /// An operator holds it.

@@ -6,11 +6,11 @@ ghost use Rattle.plan_model.specs.Contents.{Contents};
 ghost use Rattle.plan_model.specs.Valid.{IsValid};
 ghost use Rattle.plan_reasons.specs.Parts.{IsOfKind};
 ghost use Rattle.plan_reasons.specs.Places.{goes_on_from};
-ghost use Rattle.plan_reasons.specs.Reasons.{needs_start};
+ghost use Rattle.plan_reasons.specs.Reasons.{beginning_by, needs_start};
 ghost use Rattle.plan_core.specs.derived_figures.specs.Reports.{IsReported};
 ghost use Rattle.status_rules.specs.Table.{marked_status};
 
-use super::reasons::Reason;
+use super::reasons::{Beginning, Reason, Rest};
 use plan_basics::{Attr, Moment};
 use plan_core::ReportedOperation;
 use plan_model::OperationRecord;
@@ -27,6 +27,24 @@ fn goes_on_from(status: Status, attribute: Attr) -> bool
     }
 }
 
+// What a mark tells of a start.
+fn beginning_by(mark: &Mark) -> Beginning
+    ensures { result ≡ beginning_by mark.now }
+{
+    match mark {
+        Mark::Named => Beginning::Named,
+        Mark::Running => Beginning::Reported,
+        _ => Beginning::NotStarted,
+    }
+}
+
+// What the mark of an operation tells of a start.
+fn beginning_of(operation: &OperationRecord) -> Beginning
+    ensures { result ≡ beginning_by operation.now.mark }
+{
+    beginning_by(&operation.mark)
+}
+
 /// The reason that its status is none from which it goes on.
 pub fn at_rest(reported: &ReportedOperation<'_>) -> Option<Reason>
     ensures { (P : Contents) → IsValid P → (o : OpKey) (m : ℕ) → IsReported P o reported.now → IsOfKind P o reported.now.operation.now m 0 result }
@@ -34,7 +52,10 @@ pub fn at_rest(reported: &ReportedOperation<'_>) -> Option<Reason>
     if goes_on_from(reported.status, reported.attribute) {
         None
     } else {
-        Some(Reason::AtRest(reported.status))
+        Some(Reason::AtRest(Rest {
+            status: reported.status,
+            beginning: beginning_of(reported.operation),
+        }))
     }
 }
 

@@ -1,11 +1,14 @@
 // The lines of the text, piece by piece.
 ghost use Rattle.std.specs.Prelude.{◌≡◌, ◌++◌, ◌∷◌, [], IfOk, OnOk, map, codes, decimal, string_bytes};
-ghost use Rattle.plan_reasons.specs.Texts.{first_line, line, mode_word, reason_line, root_line, supply_word};
+ghost use Rattle.plan_reasons.specs.Texts.{beginning_word, first_line, holder_line, line, mode_word, reason_line, root_line, supply_word};
 ghost use Rattle.plan_basics.specs.KeyTexts.{operation_text};
 ghost use Rattle.plan_basics.specs.MomentTexts.{moment_text};
 ghost use Rattle.plan_reasons.specs.declared.reasons.Reason.{Reason as Told};
 
-use crate::{Closing, Obstacle, Reason, Scarcity, Shortage, Supply, Unsatisfied};
+use crate::{
+    Beginning, Closing, Obstacle, OtherHolder, Reason, Rest, Scarcity, Shortage, Supply,
+    Unsatisfied,
+};
 use plan_basics::{Moment, OpKey};
 use special_resources::Mode;
 use status_rules::Status;
@@ -25,6 +28,17 @@ fn mode_word<'a>(mode: Mode) -> &'a [u8]
     match mode {
         Mode::Shared => b"shared",
         Mode::Exclusive => b"exclusive",
+    }
+}
+
+// By what an operation is started: the plan named it, or its start was reported.
+fn beginning_word<'a>(beginning: Beginning) -> &'a [u8]
+    ensures { result.now ≡ beginning_word beginning }
+{
+    match beginning {
+        Beginning::Named => b" named",
+        Beginning::Reported => b" started",
+        Beginning::NotStarted => b"",
     }
 }
 
@@ -82,6 +96,20 @@ pub(crate) fn put_root(text: &mut Vec<u8>, root: &Unsatisfied) -> Result<(), All
             root.op.to_text().as_bytes(),
             b" ",
             &[root.status.letter()],
+        ],
+    )
+}
+
+// Puts the line of a status from which nothing starts behind a text.
+fn put_rest(text: &mut Vec<u8>, rest: &Rest) -> Result<(), AllocError>
+    ensures { OnOk result (text.new.items ≡ text.old.items ++ reason_line (Told.AtRest rest.now)) }
+{
+    put_line(
+        text,
+        &[
+            b"status ",
+            &[rest.status.letter()],
+            beginning_word(rest.beginning),
         ],
     )
 }
@@ -186,7 +214,7 @@ pub(crate) fn put_reason(text: &mut Vec<u8>, reason: &Reason) -> Result<(), Allo
     ensures { OnOk result (text.new.items ≡ text.old.items ++ reason_line reason.now) }
 {
     match reason {
-        Reason::AtRest(status) => put_line(text, &[b"status ", &[status.letter()]]),
+        Reason::AtRest(rest) => put_rest(text, rest),
         Reason::WaitsFor(awaited) => put_awaited(text, awaited),
         Reason::Held => put_line(text, &[b"held"]),
         Reason::TooEarly(moment) => put_line(text, &[b"not before ", &moment_text(*moment)]),
@@ -197,6 +225,26 @@ pub(crate) fn put_reason(text: &mut Vec<u8>, reason: &Reason) -> Result<(), Allo
         Reason::HeldBy(obstacle) => put_obstacle(text, obstacle),
         Reason::TooLittleLeft(scarcity) => put_scarcity(text, scarcity),
     }
+}
+
+/// Puts the line of another that holds what lacks behind a text. It fails for want of memory only.
+pub(crate) fn put_holder(text: &mut Vec<u8>, other: &OtherHolder) -> Result<(), AllocError>
+    ensures { OnOk result (text.new.items ≡ text.old.items ++ holder_line other.now) }
+{
+    let amount = number_text(*text.allocator(), other.holder.claim.amount)?;
+    put_line(
+        text,
+        &[
+            b"  ",
+            other.holder.operation.to_text().as_bytes(),
+            b" ",
+            &[other.status.letter()],
+            b" ",
+            mode_word(other.holder.claim.mode),
+            b" ",
+            amount.as_bytes(),
+        ],
+    )
 }
 
 /// Puts the last line of a text of so many lines behind it. It fails for want of memory only.

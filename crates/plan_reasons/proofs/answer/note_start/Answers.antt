@@ -19,11 +19,11 @@ returns-clause-noted c before =
     let known = c.workstation_of-workstation.ensures.known in
     let given = c.in_ok-taken.ensures in
     let held = subst (λ (Q : Contents). AreHeldIn Q c.in_ok-holdings.holdings.held) c.valid.ensures.contents c.in_ok-holdings.ensures.held in
-    let r3 = more_of_kind P o op m 3 c.args.reasons.now.items c.note.new.reasons.items c.too_early.result c.in_ok-note.ensures (c.too_early.ensures P o start) before in
-    let r4 = more_of_kind P o op m 4 c.note.new.reasons.items c.note-2.new.reasons.items c.closed.result c.in_ok-note-2.ensures (c.closed.ensures P o op start name known) r3 in
-    let r5 = more_of_kind P o op m 5 c.note-2.new.reasons.items c.note-3.new.reasons.items c.lacks.result c.in_ok-note-3.ensures (c.lacks.ensures P o start name known given) r4 in
-    let r6 = more_of_kind P o op m 6 c.note-3.new.reasons.items c.note-4.new.reasons.items c.lacks-2.result c.in_ok-note-4.ensures (c.lacks-2.ensures P o start name known given) r5 in
-    let r7 = more_of_kind P o op m 7 c.note-4.new.reasons.items c.note-5.new.reasons.items c.lacks-3.result c.in_ok-note-5.ensures (c.lacks-3.ensures P o start name known given) r6 in
-    let r8 = more_of_list P o op m 8 c.note-5.new.reasons.items c.note_all.new.reasons.items c.in_ok-all_unavailable.field-0.items c.in_ok-note_all.ensures (c.in_ok-all_unavailable.ensures o m start) r7 in
-    let r9 = more_of_list P o op m 9 c.note_all.new.reasons.items c.note_all-2.new.reasons.items c.in_ok-all_held.field-0.items c.in_ok-note_all-2.ensures (c.in_ok-all_held.ensures P m start held) r8 in
-    more_of_list P o op m 10 c.note_all-2.new.reasons.items c.note_all-3.new.reasons.items c.in_ok-all_scarce.field-0.items c.in_ok-note_all-3.ensures (c.in_ok-all_scarce.ensures m start) r9
+    let r3 = more_of_kind P o op m 3 c.args.reasons.now.items c.note.new.items.items c.too_early.result c.in_ok-note.ensures (c.too_early.ensures P o start) before in
+    let r4 = more_of_kind P o op m 4 c.note.new.items.items c.note-2.new.items.items c.closed.result c.in_ok-note-2.ensures (c.closed.ensures P o op start name known) r3 in
+    let r5 = more_of_kind P o op m 5 c.note-2.new.items.items c.note-3.new.items.items c.lacks.result c.in_ok-note-3.ensures (c.lacks.ensures P o start name known given) r4 in
+    let r6 = more_of_kind P o op m 6 c.note-3.new.items.items c.note-4.new.items.items c.lacks-2.result c.in_ok-note-4.ensures (c.lacks-2.ensures P o start name known given) r5 in
+    let r7 = more_of_kind P o op m 7 c.note-4.new.items.items c.note-5.new.items.items c.lacks-3.result c.in_ok-note-5.ensures (c.lacks-3.ensures P o start name known given) r6 in
+    let r8 = more_of_list P o op m 8 c.note-5.new.items.items c.note_all.new.items.items c.in_ok-all_unavailable.field-0.items c.in_ok-note_all.ensures (c.in_ok-all_unavailable.ensures o m start) r7 in
+    let r9 = more_of_list P o op m 9 c.note_all.new.items.items c.note_all-2.new.items.items c.in_ok-all_held.field-0.items c.in_ok-note_all-2.ensures (c.in_ok-all_held.ensures P m start held) r8 in
+    more_of_list P o op m 10 c.note_all-2.new.items.items c.note_all-3.new.items.items c.in_ok-all_scarce.field-0.items c.in_ok-note_all-3.ensures (c.in_ok-all_scarce.ensures m start) r9

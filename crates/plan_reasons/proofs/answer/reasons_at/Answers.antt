@@ -23,8 +23,8 @@ returns-clause-reasons c =
     let same = same_Some c.requires.0 op (sym (row_found P c.args.place o c.requires.0 c.requires.1) ∙ reported.operation) in
     let at = subst (λ (x : Operation). slice_get (entries P.operations) c.args.place ≡ Some (o, x)) same c.requires.1 in
     let none = subst (AreBefore P o op m 0) (sym c.new-reasons.ensures.items) (none_before P o op m) in
-    let rest = more_of_kind P o op m 0 c.new-reasons.result.items c.note.new.reasons.items c.at_rest.result c.in_ok-note.ensures (c.at_rest.ensures P c.read_for_proof.ensures.valid o m reported) none in
-    let waiting = more_of_list P o op m 1 c.note.new.reasons.items c.note_all.new.reasons.items c.in_ok-waits.field-0.items c.in_ok-note_all.ensures (c.in_ok-waits.ensures.reasons o op m at) rest in
-    let held = more_of_kind P o op m 2 c.note_all.new.reasons.items c.note-2.new.reasons.items c.held.result c.in_ok-note-2.ensures (c.held.ensures P o m) waiting in
-    let start = subst (λ (C : Contents). GoesOn C o op m 3 11 c.note-2.new.reasons.items c.note_start.new.reasons.items) c.contents.ensures.contents c.in_ok-note_start.ensures.noted in
+    let rest = more_of_kind P o op m 0 c.new-reasons.result.items c.note.new.items.items c.at_rest.result c.in_ok-note.ensures (c.at_rest.ensures P c.read_for_proof.ensures.valid o m reported) none in
+    let waiting = more_of_list P o op m 1 c.note.new.items.items c.note_all.new.items.items c.in_ok-waits.field-0.items c.in_ok-note_all.ensures (c.in_ok-waits.ensures.reasons o op m at) rest in
+    let held = more_of_kind P o op m 2 c.note_all.new.items.items c.note-2.new.items.items c.held.result c.in_ok-note-2.ensures (c.held.ensures P o m) waiting in
+    let start = subst (λ (C : Contents). GoesOn C o op m 3 11 c.note-2.new.items.items c.note_start.new.reasons.items) c.contents.ensures.contents c.in_ok-note_start.ensures.noted in
     all_found P o op m c.note_start.new.reasons.items reported.operation (start held)

@@ -21,7 +21,7 @@ loop-need-preserved c =
     let i = c.loop-need.need-index in
     let need = c.need-item.result in
     let more : take (i + 1) needs ≡ take i needs ++ need ∷ [] = take_more needs i need c.loop-need-test.true ∙ ap (λ (n : Need). take i needs ++ n ∷ []) (sym c.need-item.is) in
-    subst (λ (ns : List Need). AreScarce resources held o ns c.note.new.reasons.items) (sym more)
+    subst (λ (ns : List Need). AreScarce resources held o ns c.note.new.items.items) (sym more)
     (subst (AreScarce resources held o (take i needs ++ need ∷ [])) (sym c.in_ok-note.ensures)
     (one_need_more resources held o (take i needs) c.loop-need.reasons.items c.loop-need.invariant need (λ n has.
     subst (λ (x : Need). name_cmp n.name x.name ≡ Less) (sym c.need-item.is) (named_before needs c.as_slice-need-items.ensures.in_order i need c.loop-need-test.true n has))
