@@ -1,5 +1,6 @@
 pub mod Texts
 pub mod Fronts
 pub mod Answered
+pub mod WantedAnswers
 pub mod Paths
 pub mod RoutesFound

@@ -4,4 +4,5 @@ pub mod Routes
 pub mod Routers
 pub mod Fields
 pub mod Tests
+pub mod Looks
 pub mod Heads

@@ -19,6 +19,7 @@ code_of (status.MethodNotAllowed m) = 405
 code_of status.Conflict = 409
 code_of status.LengthRequired = 411
 code_of status.PayloadTooLarge = 413
+code_of status.UnprocessableEntity = 422
 code_of status.NotImplemented = 501
 code_of status.ServiceUnavailable = 503
 
@@ -31,6 +32,7 @@ phrase_of (status.MethodNotAllowed m) = codes "Method Not Allowed"
 phrase_of status.Conflict = codes "Conflict"
 phrase_of status.LengthRequired = codes "Length Required"
 phrase_of status.PayloadTooLarge = codes "Payload Too Large"
+phrase_of status.UnprocessableEntity = codes "Unprocessable Entity"
 phrase_of status.NotImplemented = codes "Not Implemented"
 phrase_of status.ServiceUnavailable = codes "Service Unavailable"
 

@@ -67,24 +67,24 @@ abbrev pub HasLength : Request → ℕ → Type 0
 HasLength request n = (value : List ℕ) × (lengths_of request ≡ value ∷ []) × TellsLength value n
 
 -- a body is sent in no coding, and its length is told and within the limit
-pub record HasGoodLength (request : Request) (n : ℕ) : Type 0 where
+pub record HasGoodLengthIn (most : ℕ) (request : Request) (n : ℕ) : Type 0 where
   pub sends : SendsBody request
   pub plain : ¬ IsCoded request
   pub tells : HasLength request n
-  pub within : n ≤ MOST_BODY_BYTES
+  pub within : n ≤ most
 
 -- which test is the first that the request fails
-abbrev pub Fails : Request → Rejection → Type 0
-Fails request test.NoHead = ⊥
-Fails request test.OtherForm = ¬ IsOriginForm request.target
-Fails request test.NoRoute = IsOriginForm request.target × ((r : Route) → ¬ Matches (path_of request.target) r)
-Fails request (test.OtherMethod m) = IsOriginForm request.target
+abbrev pub FailsIn : ℕ → Request → Rejection → Type 0
+FailsIn most request test.NoHead = ⊥
+FailsIn most request test.OtherForm = ¬ IsOriginForm request.target
+FailsIn most request test.NoRoute = IsOriginForm request.target × ((r : Route) → ¬ Matches (path_of request.target) r)
+FailsIn most request (test.OtherMethod m) = IsOriginForm request.target
     × ((r : Route) × Matches (path_of request.target) r × (m ≡ method_of r) × (request.method ≢ method_text m))
-Fails request test.Coded = SendsBody request × IsCoded request
-Fails request test.NoLength = SendsBody request × (¬ IsCoded request) × (lengths_of request ≡ [])
-Fails request test.BadLength = SendsBody request × (¬ IsCoded request) × (lengths_of request ≢ []) × ((n : ℕ) → ¬ HasLength request n)
-Fails request test.TooLong = SendsBody request × (¬ IsCoded request) × ((n : ℕ) × HasLength request n × (MOST_BODY_BYTES < n))
-Fails request test.CutShort = (n : ℕ) × HasGoodLength request n × (length request.rest < n)
+FailsIn most request test.Coded = SendsBody request × IsCoded request
+FailsIn most request test.NoLength = SendsBody request × (¬ IsCoded request) × (lengths_of request ≡ [])
+FailsIn most request test.BadLength = SendsBody request × (¬ IsCoded request) × (lengths_of request ≢ []) × ((n : ℕ) → ¬ HasLength request n)
+FailsIn most request test.TooLong = SendsBody request × (¬ IsCoded request) × ((n : ℕ) × HasLength request n × (most < n))
+FailsIn most request test.CutShort = (n : ℕ) × HasGoodLengthIn most request n × (length request.rest < n)
 
 -- the status of the reply where a test is the first that fails
 abbrev pub status_of : Rejection → Status
@@ -99,23 +99,27 @@ status_of test.TooLong = status.PayloadTooLarge
 status_of test.CutShort = status.BadRequest
 
 -- the body is so many of the bytes after the head as the request tells
-abbrev pub HasBody : Request → List ℕ → Type 0
-HasBody request body = (n : ℕ) × HasGoodLength request n × (n ≤ length request.rest) × (body ≡ take n request.rest)
+abbrev pub HasBodyIn : ℕ → Request → List ℕ → Type 0
+HasBodyIn most request body = (n : ℕ) × HasGoodLengthIn most request n × (n ≤ length request.rest) × (body ≡ take n request.rest)
 
 -- what a request asks for that passes all tests
-abbrev pub Asks : Request → Asked → Type 0
-Asks request (asked.Report body) = Takes request route.Report × HasBody request body.items
-Asks request (asked.Operator body) = Takes request route.Operator × HasBody request body.items
-Asks request (asked.Ready name) = Takes request route.Ready
+abbrev pub AsksIn : ℕ → Request → Asked → Type 0
+AsksIn most request (asked.Report body) = Takes request route.Report × HasBodyIn most request body.items
+AsksIn most request (asked.Operator body) = Takes request route.Operator × HasBodyIn most request body.items
+AsksIn most request (asked.Ready name) = Takes request route.Ready
     × ((segment : List ℕ) × IsReadyPath (path_of request.target) segment × (name.items ≡ percent_decode segment))
-Asks request asked.Occurrences = Takes request route.Occurrences
+AsksIn most request asked.Occurrences = Takes request route.Occurrences
 
 -- what a request comes to: what it asks for, or the first test that it fails
-abbrev pub ComesTo : Request → Result Asked Rejection → Type 0
-ComesTo request (Ok a) = Asks request a
-ComesTo request (Err r) = Fails request r
+abbrev pub ComesToIn : ℕ → Request → Result Asked Rejection → Type 0
+ComesToIn most request (Ok a) = AsksIn most request a
+ComesToIn most request (Err r) = FailsIn most request r
 
 -- what an input comes to: that of the request in it, or that it has none
+abbrev pub AnswersIn : ℕ → List ℕ → Result Asked Rejection → Type 0
+AnswersIn most input answer = ((answer ≡ Err test.NoHead) × ((request : Request) → ¬ IsRequestIn input request))
+    ⊎ ((request : Request) × IsRequestIn input request × ComesToIn most request answer)
+
+-- the same where bodies have the limit of `serve`
 abbrev pub Answers : List ℕ → Result Asked Rejection → Type 0
-Answers input answer = ((answer ≡ Err test.NoHead) × ((request : Request) → ¬ IsRequestIn input request))
-    ⊎ ((request : Request) × IsRequestIn input request × ComesTo request answer)
+Answers = AnswersIn MOST_BODY_BYTES

@@ -2,7 +2,7 @@
 ghost use Rattle.std.specs.Prelude.{◌≡◌, ◌↔◌, Err, true, false, IfOk, IfSome, MatchResult};
 ghost use Rattle.plan_basics.specs.Watched.{inner_of, failed_of};
 ghost use Rattle.http_messages.specs.Heads.{request_at};
-ghost use Rattle.http_messages.specs.Tests.{status_of, SendsBody, HasBody, Fails, ComesTo, Answers};
+ghost use Rattle.http_messages.specs.Tests.{status_of, SendsBody, HasBodyIn, FailsIn, ComesToIn, Answers, AnswersIn};
 
 use crate::bodies::read_body;
 use crate::fields::Head;
@@ -101,14 +101,15 @@ fn body_of<R: Read>(
     alloc: Global,
     reader: &mut Watched<R>,
     head: &Head<'_>,
+    most: usize,
 ) -> Result<Result<Vec<u8>, Rejection>, ExchangeFault>
     requires fresh { failed_of reader.old ≡ false }
     ensures body { IfOk result (λ found. IfSome (R.remaining (inner_of reader.old)) (λ left.
         let request = request_at head.now.bytes.now head.now.headers.now head.now.spans left in
-        SendsBody request → MatchResult found (λ body. HasBody request body.items) (Fails request))) }
+        SendsBody request → MatchResult found (λ body. HasBodyIn most request body.items) (FailsIn most request))) }
     ensures reader_fault { (result ≡ Err ExchangeFault.Reader) ↔ (failed_of reader.new ≡ true) }
 {
-    let length = match head.body_length() {
+    let length = match head.body_length(most) {
         Ok(length) => length,
         Err(test) => return Ok(Err(test)),
     };
@@ -116,14 +117,15 @@ fn body_of<R: Read>(
 }
 
 /// What the request with this head comes to.
-fn answer_of<R: Read>(
+pub(crate) fn answer_of<R: Read>(
     alloc: Global,
     reader: &mut Watched<R>,
     head: &Head<'_>,
+    most: usize,
 ) -> Result<Result<Asked, Rejection>, ExchangeFault>
     requires fresh { failed_of reader.old ≡ false }
     ensures answer { IfOk result (λ answer. IfSome (R.remaining (inner_of reader.old)) (λ left.
-        ComesTo (request_at head.now.bytes.now head.now.headers.now head.now.spans left) answer)) }
+        ComesToIn most (request_at head.now.bytes.now head.now.headers.now head.now.spans left) answer)) }
     ensures reader_fault { (result ≡ Err ExchangeFault.Reader) ↔ (failed_of reader.new ≡ true) }
 {
     let target = head.target();
@@ -133,8 +135,8 @@ fn answer_of<R: Read>(
         Err(test) => return Ok(Err(test)),
     };
     match route {
-        Route::Report => Ok(body_of(alloc, reader, head)?.map(Asked::Report)),
-        Route::Operator => Ok(body_of(alloc, reader, head)?.map(Asked::Operator)),
+        Route::Report => Ok(body_of(alloc, reader, head, most)?.map(Asked::Report)),
+        Route::Operator => Ok(body_of(alloc, reader, head, most)?.map(Asked::Operator)),
         Route::Ready => Ok(Ok(Asked::Ready(segment_of(alloc, target)?))),
         Route::Occurrences => Ok(Ok(Asked::Occurrences)),
     }
@@ -150,6 +152,18 @@ pub fn read_exchange<R: Read>(
     ensures answer { IfOk result (λ answer. IfSome (R.remaining (inner_of reader.old)) (λ input. Answers input answer)) }
     ensures reader_fault { (result ≡ Err ExchangeFault.Reader) ↔ (failed_of reader.new ≡ true) }
 {
+    read_exchange_in(alloc, reader, MOST_BODY_BYTES)
+}
+
+/// The same, where a body may have so many bytes.
+pub fn read_exchange_in<R: Read>(
+    alloc: Global,
+    reader: &mut Watched<R>,
+    most: usize,
+) -> Result<Result<Asked, Rejection>, ExchangeFault>
+    ensures answer { IfOk result (λ answer. IfSome (R.remaining (inner_of reader.old)) (λ input. AnswersIn most input answer)) }
+    ensures reader_fault { (result ≡ Err ExchangeFault.Reader) ↔ (failed_of reader.new ≡ true) }
+{
     reader.clear();
     let mut buffer = [0; MOST_HEAD_BYTES];
     let mut headers = [EMPTY_HEADER_SPAN; MOST_FIELDS];
@@ -161,5 +175,5 @@ pub fn read_exchange<R: Read>(
         headers: &headers,
         spans,
     };
-    answer_of(alloc, reader, &head)
+    answer_of(alloc, reader, &head, most)
 }

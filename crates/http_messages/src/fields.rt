@@ -3,9 +3,9 @@ ghost use Rattle.std.specs.Prelude.{◌≡◌, ◌↔◌, ℕ, List, [], ◌∷�
 ghost use Rattle.httparse.specs.Spans.{span_bytes, header_bytes, IsHeaderWithin, IsRequestWithin};
 ghost use Rattle.http_messages.specs.Fields.{is_named as has_name, values_of as named_values, IsLengthText, TellsLength};
 ghost use Rattle.http_messages.specs.Heads.{AreValues};
-ghost use Rattle.http_messages.specs.Tests.{Request, SendsBody, codings_of, lengths_of, HasGoodLength, Fails};
+ghost use Rattle.http_messages.specs.Tests.{Request, SendsBody, codings_of, lengths_of, HasGoodLengthIn, FailsIn};
 
-use crate::asking::{MOST_BODY_BYTES, Rejection};
+use crate::asking::Rejection;
 use httparse::spans::{HeaderSpan, RequestSpans};
 
 /// A head that was read: the bytes so far, and where its parts are.
@@ -45,15 +45,15 @@ impl<'b> Head<'b> {
         &self.bytes[self.spans.len..]
     }
 
-    /// The length that is told of the body, or the first test of it that fails.
-    pub(crate) fn body_length(&self) -> Result<usize, Rejection>
+    /// The length that is told of the body, at most so many bytes, or the first test of it that fails.
+    pub(crate) fn body_length(&self, most: usize) -> Result<usize, Rejection>
         ensures { (request : Request) → request.fields ≡ map (header_bytes self.now.bytes.now) (take self.now.spans.headers self.now.headers.now)
-            → SendsBody request → MatchResult result (HasGoodLength request) (Fails request) }
+            → SendsBody request → MatchResult result (HasGoodLengthIn most request) (FailsIn most request) }
     {
         let headers = &self.headers[..self.spans.headers];
         let codings = values_of(self.bytes, headers, b"transfer-encoding");
         let lengths = values_of(self.bytes, headers, b"content-length");
-        length_told(codings, lengths)
+        length_told(codings, lengths, most)
     }
 }
 
@@ -117,9 +117,9 @@ fn length_of(value: &[u8]) -> Option<usize>
 }
 
 /// The length of a body, of which these codings and lengths are told, or the first test of it that fails.
-fn length_told(codings: Values<'_>, lengths: Values<'_>) -> Result<usize, Rejection>
+fn length_told(codings: Values<'_>, lengths: Values<'_>, most: usize) -> Result<usize, Rejection>
     ensures { (request : Request) → AreValues (codings_of request) codings.entry → AreValues (lengths_of request) lengths.entry
-        → SendsBody request → MatchResult result (HasGoodLength request) (Fails request) }
+        → SendsBody request → MatchResult result (HasGoodLengthIn most request) (FailsIn most request) }
 {
     match codings {
         Values::Absent => {}
@@ -132,7 +132,7 @@ fn length_told(codings: Values<'_>, lengths: Values<'_>) -> Result<usize, Reject
     };
     match length_of(value) {
         None => Err(Rejection::BadLength),
-        Some(length) if length > MOST_BODY_BYTES => Err(Rejection::TooLong),
+        Some(length) if length > most => Err(Rejection::TooLong),
         Some(length) => Ok(length),
     }
 }

@@ -1,18 +1,23 @@
-//! The head of an exchange: what a request asks for, or the first test of its form that it fails, from the bytes that a
-//! reader holds; and the bytes of a reply. No plan is asked here.
+//! The head of an exchange: what a request asks for or looks at, or the first test of its form that it fails, from the
+//! bytes that a reader holds; and the bytes of a reply. No plan is asked here.
 #![tactic(auto)]
 
 mod asking;
 mod bodies;
 mod fields;
 mod heads;
+mod looks;
 mod reading;
 mod replies;
 mod routes;
 mod statuses;
+mod wanting;
 
 pub use asking::{
     Asked, ExchangeFault, MOST_BODY_BYTES, MOST_FIELDS, MOST_HEAD_BYTES, Rejection, read_exchange,
+    read_exchange_in,
 };
-pub use replies::reply_bytes;
+pub use looks::{Look, Page};
+pub use replies::{reply_bytes, text_reply_bytes};
 pub use statuses::{Method, Status};
+pub use wanting::{Wanted, read_wanted};

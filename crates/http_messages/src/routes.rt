@@ -4,7 +4,7 @@ ghost use Rattle.percent_encoding.specs.Percent.{percent_decode as unescaped};
 ghost use Rattle.http_messages.specs.Routes.{path_of as path_before, IsReadyPath, Matches, method_of};
 ghost use Rattle.http_messages.specs.Routers.{table};
 ghost use Rattle.http_messages.specs.Statuses.{method_text};
-ghost use Rattle.http_messages.specs.Tests.{Takes, Fails};
+ghost use Rattle.http_messages.specs.Tests.{Takes, FailsIn};
 
 use crate::asking::Rejection;
 use crate::statuses::Method;
@@ -37,7 +37,7 @@ impl Route {
 const READY: &[u8] = b"/ready/";
 
 /// A target up to its first question mark.
-fn path_of(target: &[u8]) -> &[u8]
+pub(crate) fn path_of(target: &[u8]) -> &[u8]
     ensures { result.now ≡ path_before target.now }
 {
     match target.iter().position(|byte| *byte == b'?') {
@@ -80,9 +80,9 @@ pub(crate) fn route_of_line(
     method: &[u8],
     target: &[u8],
 ) -> Result<Result<Route, Rejection>, AllocError>
-    ensures { IfOk result (λ line. (fields : List (List ℕ × List ℕ)) (rest : List ℕ)
+    ensures { IfOk result (λ line. (most : ℕ) (fields : List (List ℕ × List ℕ)) (rest : List ℕ)
         → MatchResult line (Takes (record { method = method.now; target = target.now; fields = fields; rest = rest }))
-        (Fails (record { method = method.now; target = target.now; fields = fields; rest = rest }))) }
+        (FailsIn most (record { method = method.now; target = target.now; fields = fields; rest = rest }))) }
 {
     if target.first() != Some(&b'/') {
         return Ok(Err(Rejection::OtherForm));

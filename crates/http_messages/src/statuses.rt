@@ -43,6 +43,8 @@ pub enum Status {
     LengthRequired,
     /// The body is longer than any that is read.
     PayloadTooLarge,
+    /// The request's moment is too far ahead of the plan's clock.
+    UnprocessableEntity,
     /// The body is sent in a coding that isn't read.
     NotImplemented,
     /// The desk can't answer: memory or its store fails.
@@ -61,6 +63,7 @@ impl Status {
             Status::Conflict => StatusCode::CONFLICT,
             Status::LengthRequired => StatusCode::LENGTH_REQUIRED,
             Status::PayloadTooLarge => StatusCode::PAYLOAD_TOO_LARGE,
+            Status::UnprocessableEntity => StatusCode::UNPROCESSABLE_ENTITY,
             Status::NotImplemented => StatusCode::NOT_IMPLEMENTED,
             Status::ServiceUnavailable => StatusCode::SERVICE_UNAVAILABLE,
         }

@@ -3,8 +3,8 @@ use Rattle.std.proofs.lemmas.List.{length-take-le}
 use Rattle.plan_basics.specs.Watched.{inner_of}
 use Rattle.http_messages.specs.declared.asking.TheConstants.{MOST_HEAD_BYTES, MOST_FIELDS}
 use Rattle.http_messages.specs.Heads.{FindsHead}
-use Rattle.http_messages.proofs.Answered.{answered}
-use Rattle.http_messages.proofs.asking.read_exchange.Goals as goal
+use Rattle.http_messages.proofs.WantedAnswers.{wanted_answered}
+use Rattle.http_messages.proofs.wanting.read_wanted.Goals as goal
 
 pub returns-clause-answer : goal.returns-clause-answer
 returns-clause-answer g c =
@@ -14,4 +14,4 @@ returns-clause-answer g c =
     let long : length (take c.in-Some.filled buffer) ≡ c.in-Some.filled = length-take-le _ buffer found.0 in
     let short : length (take c.in-Some.filled buffer) ≤ MOST_HEAD_BYTES = omega arith in
     let few : length c.read_head.new.headers ≤ MOST_FIELDS = omega arith in
-    answered _ _ (take c.in-Some.filled buffer) c.read_head.new.headers c.in-Some.spans short few found.1 c.answer_of.result c.answer_of.ensures.answer
+    wanted_answered c.args.most _ _ (take c.in-Some.filled buffer) c.read_head.new.headers c.in-Some.spans short few found.1 c.wanted_of.result c.wanted_of.ensures.answer

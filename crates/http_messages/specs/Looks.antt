@@ -1,0 +1,59 @@
+-- Which paths are looks', beside the routes, and what a request comes to that may be one.
+use Rattle.std.specs.Prelude.{◌≡◌, ◌≢◌, ◌⊎◌, ℕ, ◌<◌, List, ◌++◌, length, codes, Result, Ok, Err}
+use Rattle.percent_encoding.specs.Percent.{percent_decode}
+use Rattle.http_messages.specs.declared.asking.Rejection.{Rejection}
+use Rattle.http_messages.specs.declared.asking.Rejection.TheVariants as test
+use Rattle.http_messages.specs.declared.looks.Look.{Look}
+use Rattle.http_messages.specs.declared.looks.Look.TheVariants as look
+use Rattle.http_messages.specs.declared.looks.Page.{Page}
+use Rattle.http_messages.specs.declared.looks.Page.TheVariants as page
+use Rattle.http_messages.specs.declared.statuses.Method.TheVariants as method
+use Rattle.http_messages.specs.declared.wanting.Wanted.{Wanted}
+use Rattle.http_messages.specs.declared.wanting.Wanted.TheVariants as wanted
+use Rattle.http_messages.specs.Routes.{path_of}
+use Rattle.http_messages.specs.Statuses.{method_text}
+use Rattle.http_messages.specs.Tests.{Request, AsksIn, FailsIn, IsRequestIn}
+
+-- the path of a page
+abbrev pub page_path : Page → List ℕ
+page_path page.Occurrences = codes "/report/occurrences"
+page_path page.Errors = codes "/report/errors"
+page_path page.Late = codes "/report/late"
+page_path page.ShowStarted = codes "/show/started"
+page_path page.ShowResources = codes "/show/resources"
+page_path page.ShowWorkstations = codes "/show/workstations"
+page_path page.ShowTrackers = codes "/show/trackers"
+page_path page.Started = codes "/started"
+page_path page.Health = codes "/health"
+
+-- the path goes on after this, and the bytes are what comes then, without its escapes
+abbrev pub GoesOnBy : List ℕ → List ℕ → List ℕ → Type 0
+GoesOnBy before path bytes = (rest : List ℕ) × (0 < length rest) × (path ≡ before ++ rest) × (bytes ≡ percent_decode rest)
+
+-- the path is that of the look
+abbrev pub IsLookPath : Look → List ℕ → Type 0
+IsLookPath (look.Page p) path = path ≡ page_path p
+IsLookPath (look.Ready name) path = GoesOnBy (codes "/report/ready/") path name.items
+IsLookPath (look.Why key) path = GoesOnBy (codes "/why/") path key.items
+IsLookPath (look.ShowOperations key) path = GoesOnBy (codes "/show/operations/") path key.items
+IsLookPath (look.StartedOn name) path = GoesOnBy (codes "/started/") path name.items
+
+-- the target's path is no look's
+abbrev pub NoLook : List ℕ → Type 0
+NoLook target = (l : Look) → ¬ IsLookPath l (path_of target)
+
+-- the target's path is a look's, and the method is the one that looks take; or it is another
+abbrev pub LooksAt : List ℕ → List ℕ → Result Look Rejection → Type 0
+LooksAt m target (Ok l) = IsLookPath l (path_of target) × (m ≡ method_text method.Get)
+LooksAt m target (Err t) = ((l : Look) × IsLookPath l (path_of target)) × (m ≢ method_text method.Get) × (t ≡ test.OtherMethod method.Get)
+
+-- what a request comes to: what it looks at; or, where its path is no look's, what it asks for, or the first test that it fails
+abbrev pub ComesToWanted : ℕ → Request → Result Wanted Rejection → Type 0
+ComesToWanted most request (Ok (wanted.Look l)) = LooksAt request.method request.target (Ok l)
+ComesToWanted most request (Ok (wanted.Asked a)) = NoLook request.target × AsksIn most request a
+ComesToWanted most request (Err t) = LooksAt request.method request.target (Err t) ⊎ (NoLook request.target × FailsIn most request t)
+
+-- what an input comes to: that of the request in it, or that it has none
+abbrev pub AnswersWanted : ℕ → List ℕ → Result Wanted Rejection → Type 0
+AnswersWanted most input answer = ((answer ≡ Err test.NoHead) × ((request : Request) → ¬ IsRequestIn input request))
+    ⊎ ((request : Request) × IsRequestIn input request × ComesToWanted most request answer)
