@@ -1,0 +1,4 @@
+pub mod Plain
+pub mod TextsOf
+pub mod Told
+pub mod Ending
