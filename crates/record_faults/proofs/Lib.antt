@@ -17,3 +17,4 @@ pub mod Circling
 pub mod Whole
 pub mod Returning
 pub mod PlainTexts
+pub mod Warned

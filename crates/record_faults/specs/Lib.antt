@@ -5,3 +5,4 @@ pub mod Readings
 pub mod Circles
 pub mod Faults
 pub mod Plans
+pub mod Warnings

@@ -82,3 +82,21 @@ pub fn earlier_of(alloc: Global, groups: &[Option<Group>]) -> Result<Vec<Option<
     }
     Ok(earlier)
 }
+
+// For each group the last place of it.
+pub fn latest_of(alloc: Global, groups: &[Option<Group>]) -> Result<Counts, AllocError>
+    ensures { IfOk result (AreLast groups.now (length groups.now)) }
+{
+    let mut latest = BTreeMap::new(alloc);
+    for (place, group) in groups.iter().enumerate() {
+        relay(&mut latest, group, place)?;
+    }
+    Ok(latest)
+}
+
+// The last place of a group, if there is one.
+pub fn last_in(latest: &Counts, group: &Group) -> Option<usize>
+    ensures { result ≡ kept_for latest.now group.now }
+{
+    latest.get(group).copied()
+}

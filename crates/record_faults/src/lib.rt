@@ -18,6 +18,7 @@ mod readings;
 mod sayings;
 mod shapes;
 mod stocks;
+mod warnings;
 
 pub use circles::Circle;
 pub use faults::{Fault, RecordFault};
@@ -27,3 +28,4 @@ pub use index::{Index, first_place, index_of};
 pub use kinds::{Form, Kind, Shape};
 pub use names::Naming;
 pub use sayings::{Fields, keys_given, sayings_of};
+pub use warnings::{RecordWarning, Warning, warnings_of};

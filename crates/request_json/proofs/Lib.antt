@@ -8,3 +8,5 @@ pub mod Written
 pub mod OnOperation
 pub mod Wholes
 pub mod Exactly
+pub mod Found
+pub mod RequestFaultLaws

@@ -89,7 +89,7 @@ operation_said (what.ReplaceIntervals workstation rows) verb more tick error loa
 operation_said _ verb more tick error load add extend delete depend available intervals a = refl
 
 -- arrays of the same values are made of the same
-items_apart : (xs ys : List Data) → items_of xs ≡ items_of ys → xs ≡ ys
+pub items_apart : (xs ys : List Data) → items_of xs ≡ items_of ys → xs ≡ ys
 items_apart [] [] e = refl
 items_apart [] (y ∷ ys) e = absurd (cc e)
 items_apart (x ∷ xs) [] e = absurd (cc e)

@@ -4,3 +4,4 @@ pub mod Intervals
 pub mod Requests
 pub mod Counted
 pub mod Replies
+pub mod RequestFaults

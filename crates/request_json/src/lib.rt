@@ -27,6 +27,7 @@ ghost use Rattle.request_json.specs.Requests.{SaysReport, ReadsAsRequest, ReadsA
 ghost use Rattle.serde_json.specs.Data.{Data};
 ghost use Rattle.serde_json.specs.View.{view};
 
+mod faults;
 mod intervals;
 mod members;
 mod operations;
@@ -35,11 +36,12 @@ mod replies;
 mod requests;
 mod rows;
 
+pub use faults::{MemberName, RequestFault, RequestKind, faults_of_request, request_fault_text};
 use members::{number_at, text_at, tracker_at};
 use operations::is_report;
 use plan_basics::TrackerName;
 pub use plan_import::{ImportFault, read_extension, read_plan};
-use plan_records::Request;
+pub use plan_records::{Request, What};
 pub use replies::{fault_text, reply_text};
 use requests::read_request;
 pub use rows::{OccurrenceRow, ReadyRow, occurrences_text, ready_text};

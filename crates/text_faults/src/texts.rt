@@ -123,9 +123,11 @@ fn may_be(alloc: Global, form: Form) -> Result<String, AllocError> {
             char::from(first),
             char::from(second)
         ),
-        Form::Number(least, most) => format!(in alloc; "a whole number from {least} to {most}"),
+        Form::Number(least, most) => format!(in alloc;
+            "a whole number from {least} to {most}, without leading zeros"
+        ),
         Form::NumberOrEmpty(least, most) => format!(in alloc;
-            "a whole number from {least} to {most}, or empty"
+            "a whole number from {least} to {most}, without leading zeros, or empty"
         ),
         Form::Moment => format!(in alloc; "a moment YYYY-MM-DDTHH:MM"),
         Form::MomentOrEmpty => format!(in alloc; "a moment YYYY-MM-DDTHH:MM, or empty"),
@@ -185,8 +187,8 @@ fn group_text(alloc: Global, group: &Group) -> Result<String, AllocError> {
     }
 }
 
-// The line of a record; of the last one, where there is no record at the place, and 1 where there is none at all.
-fn line_of(lines: &[u64], place: usize) -> u64
+/// The line of a record; of the last one, where there is no record at the place, and 1 where there is none at all.
+pub fn line_of(lines: &[u64], place: usize) -> u64
     ensures { result ≡ line_at lines.now place }
 {
     match lines.get(place) {

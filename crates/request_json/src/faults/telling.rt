@@ -1,0 +1,116 @@
+// What is told of a fault of a request's text: the member, what is wrong, and what it may be.
+ghost use Rattle.std.specs.Prelude.{◌≡◌, ◌++◌, ℕ, List, codes, IfOk};
+ghost use Rattle.std.specs.String.{string_bytes};
+ghost use Rattle.request_json.specs.RequestFaults.{place_text};
+
+use super::finding::RequestFault;
+use super::kinds::{MemberName, RequestKind, first_member, kind_at, member_name, second_member};
+use crate::read_value;
+use serde_json::Value;
+use std::alloc::{AllocError, Global};
+
+// What a member may be.
+fn may_be(name: MemberName) -> &'static str {
+    match name {
+        MemberName::At => "a date and time YYYY-MM-DDTHH:MM",
+        MemberName::Do => {
+            "tick, started, ended, error, interrupted, unknown, hold, release, nop, unnop, rerun, complete, load, add, extend, delete, depend, available or intervals"
+        }
+        MemberName::Op | MemberName::From | MemberName::To => {
+            "an operation's key APPLICATION/YYYY-MM-DDTHH:MM/NNN: the number has three digits: 010"
+        }
+        MemberName::Code => "an error code of 1 to 4 characters of A-Z, 0-9, @, # and $",
+        MemberName::Occ => "an occurrence's key APPLICATION/YYYY-MM-DDTHH:MM",
+        MemberName::Records => "a text",
+        MemberName::Resource => "a name of 1 to 44 characters of A-Z, 0-9, @, #, $, . and -",
+        MemberName::Value => "true or false",
+        MemberName::Ws => "a name of 1 to 4 characters of A-Z, 0-9, @, # and $",
+        MemberName::Intervals => {
+            "an array of arrays of a first minute, an end after it, servers, R1 and R2: [[\"2024-03-01T22:00\",\"2024-03-02T06:00\",1,0,0]]"
+        }
+    }
+}
+
+// Whether a name is that of a member, if there is to be one.
+fn is_name_of(found: Option<MemberName>, name: &str) -> bool {
+    match found {
+        Some(found) => member_name(found) == name,
+        None => false,
+    }
+}
+
+// Whether a name is that of a member of a request of the kind.
+fn is_known(kind: RequestKind, name: &str) -> bool {
+    name == "at"
+        || name == "do"
+        || is_name_of(first_member(kind), name)
+        || is_name_of(second_member(kind), name)
+}
+
+// The names of a value's other members, each between quotes.
+fn names_of_others(alloc: Global, value: &Value) -> Result<String, AllocError> {
+    let mut text = String::new(alloc);
+    let Some(kind) = kind_at(value) else {
+        return Ok(text);
+    };
+    let Some(members) = value.as_object() else {
+        return Ok(text);
+    };
+    for (name, _) in members.iter() {
+        if !is_known(kind, name) {
+            let more = format!(in alloc; " \"{name}\"")?;
+            text.push_str(&more)?;
+        }
+    }
+    Ok(text)
+}
+
+// What is wrong, and what it may be.
+fn wrong_text(alloc: Global, fault: RequestFault, body: &[u8]) -> Result<String, AllocError> {
+    match fault {
+        RequestFault::NoJson => format!(in alloc; "no JSON text"),
+        RequestFault::NoObject => format!(in alloc; "no object: it must be an object of members"),
+        RequestFault::Missing(name) => {
+            let form = may_be(name);
+            format!(in alloc; "missing: must be {form}")
+        }
+        RequestFault::Wrong(name) => {
+            let form = may_be(name);
+            format!(in alloc; "must be {form}")
+        }
+        RequestFault::Others => match read_value(alloc, body)? {
+            Some(value) => {
+                let names = names_of_others(alloc, &value)?;
+                format!(in alloc; "unknown member{names}")
+            }
+            None => format!(in alloc; "unknown member"),
+        },
+    }
+}
+
+// The member that a fault is of; `request` where it is of the whole.
+fn place_of(fault: RequestFault) -> &'static str
+    ensures { result.now ≡ place_text fault }
+{
+    match fault {
+        RequestFault::NoJson => "request",
+        RequestFault::NoObject => "request",
+        RequestFault::Missing(name) => member_name(name),
+        RequestFault::Wrong(name) => member_name(name),
+        RequestFault::Others => "do",
+    }
+}
+
+/// What is told of a fault of a request's text: the member, or `request` where it is of the whole, a colon, what is wrong
+/// and what it may be. Other members are told with their names, under `do`. It fails for want of memory only.
+pub fn request_fault_text(
+    alloc: Global,
+    fault: RequestFault,
+    body: &[u8],
+) -> Result<String, AllocError>
+    ensures { IfOk result (λ text. (wrong : List ℕ) × (string_bytes text ≡ place_text fault ++ codes ": " ++ wrong)) }
+{
+    let place = place_of(fault);
+    let wrong = wrong_text(alloc, fault, body)?;
+    format!(in alloc; "{place}: {wrong}")
+}
