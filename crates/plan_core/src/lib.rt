@@ -3,6 +3,7 @@
 #![tactic(auto)]
 
 mod alone;
+mod copying;
 mod counted;
 mod from_rows;
 mod lists;
