@@ -1,8 +1,6 @@
 -- The list of what is late, out of the views of all operations.
-use Rattle.std.proofs.Common.{◌≡◌, ◌≢◌, ◌&&◌, inl, inr, true, false, cond, refl, sym, ap, subst, ◌∙◌, arith, ℤ, pos, ◌<ℤ◌, int_lt, Bool, List, [], ◌∷◌, map, Contains}
-use Rattle.std.proofs.lemmas.Bool.{cond_both}
+use Rattle.std.proofs.Common.{◌≡◌, ◌≢◌, ◌&&◌, inl, inr, true, false, refl, sym, ap, subst, ◌∙◌, arith, ℤ, pos, ◌<ℤ◌, int_lt, Bool, List, map, Contains}
 use Rattle.std.proofs.lemmas.Int.{by_lt_z, ints}
-use Rattle.std.proofs.lemmas.List.Elements.{All-contains, All-filter, filter_passes}
 use Rattle.std.proofs.lemmas.List.Sorted.{Contains-permutation, IsPermutation-sym}
 use Rattle.std.specs.Cmp.{IsTotalOrder, int_cmp_total, on_total, then_total}
 use Rattle.std.specs.FinMap.{IsAntisymmetric, int_cmp-IsAntisymmetric}
@@ -13,36 +11,16 @@ use Rattle.plan_basics.specs.Keys.{operation_cmp, operation_cmp_total, operation
 use Rattle.plan_basics.specs.declared.keys.OpKey.{OpKey}
 use Rattle.desk_tables.specs.plan_core.specs.Views.{AreOpViews, IsOpView}
 use Rattle.desk_tables.specs.plan_core.specs.declared.views.OpView.{OpView}
-use Rattle.plan_reasons.specs.plan_drafts.proofs.Keyed.{ascend_by}
-use Rattle.plan_reasons.specs.plan_drafts.proofs.Lists.{Differ, all_by_members, contains_cases, contains_head, contains_later, contains_none, differ_unmap, differ_weaken, from_map, in_map, pairs_from_differ}
-use Rattle.plan_reasons.specs.plan_drafts.proofs.Tables.{sorted_apart}
+use Rattle.plan_shows.specs.plan_reasons.specs.plan_drafts.proofs.Keyed.{ascend_by}
+use Rattle.plan_shows.specs.plan_reasons.specs.plan_drafts.proofs.Lists.{differ_unmap, differ_weaken, from_map, in_map, pairs_from_differ}
+use Rattle.plan_shows.specs.plan_reasons.specs.plan_drafts.proofs.Tables.{sorted_apart}
 use Rattle.desk_tables.specs.plan_laws.proofs.Classes.{classes_of_status}
 use Rattle.desk_tables.specs.plan_laws.proofs.Latest.{each_has_one_latest_start}
 use Rattle.plan_model.specs.Contents.{Contents, IsInPlan}
 use Rattle.plan_model.specs.Status.{IsWaitingOrReady}
 use Rattle.plan_model.specs.Plan.{Plan, IsSoundPlan}
+use Rattle.plan_shows.proofs.Filters.{among, differ_filtered, into_filter, passes}
 use Rattle.plan_reports.specs.Late.{AreLateViews, IsLate, due, due_cmp, is_late}
-
--- ---- what passes a filter
-module _ {X : Type 0} (p : X → Bool) where
-  into_filter : (xs : List X) (x : X) → Contains xs x → p x ≡ true → Contains (filter p xs) x
-  into_filter [] x has e = absurd (contains_none x has)
-  into_filter (y ∷ xs) x has e =
-      elim (contains_cases y xs x has) [
-        | inl same ↦ subst (λ b. Contains (cond b (y ∷ filter p xs) (filter p xs)) x) (sym (ap p same ∙ e)) (subst (Contains (y ∷ filter p xs)) same (contains_head y (filter p xs)))
-        | inr later ↦ cond_both (p y) (y ∷ filter p xs) (filter p xs) (λ zs. Contains zs x) (λ _. contains_later y (filter p xs) x (into_filter xs x later e)) (λ _. into_filter xs x later e)
-      ]
-
-  passes : (xs : List X) (x : X) → Contains (filter p xs) x → p x ≡ true
-  passes xs x has = All-contains (λ z. p z ≡ true) (filter p xs) x (filter_passes p xs) has
-
-  among : (xs : List X) (x : X) → Contains (filter p xs) x → Contains xs x
-  among xs x has = All-contains (Contains xs) (filter p xs) x (All-filter p (Contains xs) xs (all_by_members (Contains xs) xs (λ z h. h))) has
-
-  differ_filtered : (S : X → X → Type 0) (xs : List X) → Differ S xs → Differ S (filter p xs)
-  differ_filtered S [] h = tt
-  differ_filtered S (x ∷ xs) h =
-      cond_both (p x) (x ∷ filter p xs) (filter p xs) (Differ S) (λ _. (All-filter p (S x) xs h.0, differ_filtered S xs h.1)) (λ _. differ_filtered S xs h.1)
 
 -- ---- the order of what is late
 pub due_total : IsTotalOrder due_cmp

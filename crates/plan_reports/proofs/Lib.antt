@@ -1,4 +1,3 @@
-pub mod Latest
 pub mod LateLists
 pub mod OneText
 pub mod Whys

@@ -10,7 +10,7 @@ use Rattle.plan_basics.specs.declared.keys.OpKey.{OpKey}
 use Rattle.desk_tables.specs.plan_core.specs.Views.{AreOccViews, AreReadyViews, IsOccView, IsOpView}
 use Rattle.desk_tables.specs.plan_core.specs.declared.views.OccView.{OccView}
 use Rattle.desk_tables.specs.plan_core.specs.declared.views.OpView.{OpView}
-use Rattle.plan_reasons.specs.plan_drafts.proofs.Lists.{contains_head, contains_later, from_map, in_map}
+use Rattle.plan_shows.specs.plan_reasons.specs.plan_drafts.proofs.Lists.{contains_head, contains_later, from_map, in_map}
 use Rattle.desk_tables.specs.plan_laws.proofs.Choice.{one_ready_list}
 use Rattle.desk_tables.specs.plan_laws.proofs.Sorted.{sorted_unique}
 use Rattle.desk_tables.specs.plan_laws.proofs.Tabling.{one_row}
@@ -26,6 +26,7 @@ use Rattle.desk_tables.specs.Errors.{AreErrorRows, IsErrorRow}
 use Rattle.desk_tables.specs.declared.errors.ErrorRow.{ErrorRow}
 use Rattle.status_rules.specs.declared.Mark.TheVariants as mark
 use Rattle.status_rules.specs.declared.Status.TheVariants.{Complete}
+use Rattle.plan_shows.specs.Views.{AreViewsOf}
 use Rattle.plan_reports.specs.Late.{AreLateViews, due}
 use Rattle.plan_reports.proofs.LateLists.{due_total}
 
@@ -90,6 +91,12 @@ module _ (P : Contents) (valid : IsValid P) where
       let keys : x.keys ≡ y.keys = one_ready_list P x.keys y.keys x.is_ready_list y.is_ready_list in
       let same : map (λ v. v.key) a ≡ map (λ v. v.key) b = rw (x.in_order, y.in_order, keys) in
       same_lists (λ (v : OpView). v.key) (IsOpView P) one_view a b x.each y.each same
+
+  -- those of which something is so
+  pub one_list : (IsListed : OpKey → Type 0) (a b : List OpView) → AreViewsOf P IsListed a → AreViewsOf P IsListed b → a ≡ b
+  one_list IsListed a b x y =
+      same_lists (λ (v : OpView). v.key) (IsOpView P) one_view a b x.each y.each
+      (same_keys operation_cmp_total IsListed (map (λ v. v.key) a) (map (λ v. v.key) b) x.in_order y.in_order x.every y.every)
 
   -- ---- occurrences
   one_occurrence_view : (v w : OccView) → IsOccView P v → IsOccView P w → v.key ≡ w.key → v ≡ w

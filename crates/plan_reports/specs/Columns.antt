@@ -1,21 +1,12 @@
 -- The columns of each report: texts stand at the left of a column, numbers at the right, of these widths.
-use Rattle.std.specs.Prelude.{ℕ, ℤ, pos, negsuc, Bool, true, false, List, [], ◌∷◌, replicate, codes, cond, nat_lt}
+use Rattle.std.specs.Prelude.{ℕ, List, [], ◌∷◌}
 use Rattle.plan_basics.specs.MomentTexts.{moment_text}
 use Rattle.status_rules.specs.Texts.{occurrence_letter, status_letter}
 use Rattle.desk_tables.specs.plan_core.specs.declared.views.OccView.{OccView}
 use Rattle.desk_tables.specs.plan_core.specs.declared.views.OpView.{OpView}
 use Rattle.desk_tables.specs.declared.errors.ErrorRow.{ErrorRow}
-use Rattle.plan_reports.specs.Lines.{left, right}
-
--- a latest start: the text of its moment, or sixteen hyphens where it is none
-abbrev pub latest_text : ℤ → List ℕ
-latest_text (pos m) = cond (nat_lt m 52596000) (moment_text m) (replicate 16 45)
-latest_text (negsuc m) = replicate 16 45
-
--- whether an operator holds it
-abbrev pub held_text : Bool → List ℕ
-held_text true = codes "H"
-held_text false = codes "-"
+use Rattle.plan_shows.specs.Columns.{held_text, latest_text}
+use Rattle.plan_shows.specs.Lines.{left, right}
 
 -- an operation that is ready
 abbrev pub ready_columns : OpView → List (List ℕ)

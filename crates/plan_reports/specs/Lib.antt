@@ -1,7 +1,8 @@
 pub use Rattle.desk_tables
 pub use Rattle.desk_tables.specs.plan_core
 pub use Rattle.desk_tables.specs.store_reads
-pub mod Lines
+pub use Rattle.plan_shows
+pub use Rattle.plan_shows.specs.plan_reasons
 pub mod Columns
 pub mod Texts
 pub mod Late

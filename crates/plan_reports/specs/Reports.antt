@@ -13,9 +13,12 @@ use Rattle.desk_tables.specs.plan_core.specs.declared.views.OpView.{OpView}
 use Rattle.plan_model.specs.Plan.{Plan}
 use Rattle.desk_tables.specs.Errors.{AreErrorRows}
 use Rattle.desk_tables.specs.declared.errors.ErrorRow.{ErrorRow}
-use Rattle.plan_reasons.specs.Whys.{IsWhy}
-use Rattle.plan_reasons.specs.declared.answer.Why.{Why}
-use Rattle.plan_reasons.specs.Texts.{why_text}
+use Rattle.plan_shows.specs.plan_reasons.specs.Whys.{IsWhy}
+use Rattle.plan_shows.specs.plan_reasons.specs.declared.answer.Why.{Why}
+use Rattle.plan_shows.specs.plan_reasons.specs.Texts.{why_text}
+pub use Rattle.plan_shows.specs.Shows.{IsOwed}
+use Rattle.plan_shows.specs.Shows.{show_refusal_of}
+use Rattle.plan_shows.specs.declared.shows.Show.{Show}
 use Rattle.plan_reports.specs.Late.{AreLateViews}
 use Rattle.plan_reports.specs.Texts.{errors_text, late_text, occurrences_text, ready_text}
 
@@ -53,10 +56,9 @@ abbrev pub why_refusal_of : Bool → Plan → OpKey → Option Refusal
 why_refusal_of usable P o =
     if usable then (if P.loaded then (if is_some (get P.contents.operations o) then None else Some refusal.UnknownOperation) else Some refusal.NotLoaded) else Some refusal.Reopen
 
--- where a refusal is owed, it is the one that is given; else only that memory lacks
-abbrev pub IsOwed : Option Refusal → Refusal → Type 0
-IsOwed (Some owed) r = r ≡ owed
-IsOwed None r = r ≡ refusal.Memory
+-- so to a show: that the desk has to be opened again, and else what is owed of its plan
+abbrev pub desk_show_refusal_of : Bool → Show → Plan → Option Refusal
+desk_show_refusal_of usable s P = if usable then show_refusal_of s P else Some refusal.Reopen
 
 -- no refusal is owed, and such a text was added to the known bytes
 abbrev pub IsWritten : Option Refusal → (List ℕ → Type 0) → Option (List ℕ) → Option (List ℕ) → Type 0

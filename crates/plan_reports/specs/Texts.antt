@@ -1,16 +1,12 @@
 -- The whole text of each report: its first line, its rows and its end.
-use Rattle.std.specs.Prelude.{ℕ, List, [], ◌∷◌, map, codes}
+use Rattle.std.specs.Prelude.{ℕ, List, ◌∷◌, map, codes}
 use Rattle.plan_basics.specs.Keys.{Name}
-use Rattle.plan_basics.specs.MomentTexts.{moment_text}
 use Rattle.desk_tables.specs.plan_core.specs.declared.views.OccView.{OccView}
 use Rattle.desk_tables.specs.plan_core.specs.declared.views.OpView.{OpView}
 use Rattle.desk_tables.specs.declared.errors.ErrorRow.{ErrorRow}
 use Rattle.plan_reports.specs.Columns.{error_columns, late_columns, occurrence_columns, ready_columns}
-use Rattle.plan_reports.specs.Lines.{report}
-
--- what a first line ends with: the moment of the clock
-abbrev pub at_moment : ℕ → List (List ℕ)
-at_moment clock = codes "AT" ∷ moment_text clock ∷ []
+use Rattle.plan_shows.specs.Lines.{report}
+use Rattle.plan_shows.specs.Shows.{at_moment}
 
 -- these are ready on this workstation
 abbrev pub ready_text : Name → ℕ → List OpView → List ℕ

@@ -1,17 +1,18 @@
 //! The reports of a desk: what is ready on a workstation, all occurrences, the operations in error, those that are late,
-//! and why one doesn't go on, each as lines of text.
+//! and why one doesn't go on, each as lines of text; and the shows.
 #![tactic(auto)]
 
 mod late;
 mod laws;
-mod lines;
 mod made;
 mod reports;
 mod rows;
-mod texts;
 
-pub use desk_tables::{Desk, answer_alone, run_all};
+pub use desk_tables::{Desk, Occs, Plan, Ready, answer_alone, open_again, run_all};
 pub use laws::one_text;
+pub use made::{errors_made, late_made, occurrences_made, ready_made, show_made, why_made};
+pub use plan_shows::{Show, health_text, started_text};
 pub use reports::{
-    ReportFault, error_report, late_report, occurrence_report, ready_report, why_report,
+    ReportFault, error_report, late_report, occurrence_report, ready_report, show_report,
+    why_report,
 };

@@ -2,15 +2,14 @@
 ghost use Rattle.std.specs.Prelude.{◌≡◌, IfErr, IfOk, None, Some};
 ghost use Rattle.plan_basics.specs.declared.Refusal.{Refusal};
 ghost use Rattle.desk_tables.specs.Errors.{AreErrorRows};
-ghost use Rattle.plan_reports.specs.Reports.{IsErrorReport, IsLateReport, IsOccurrenceReport, IsOwed, IsReadyReport, IsWhyReport, ready_refusal_of, refusal_of, why_refusal_of};
+ghost use Rattle.plan_reports.specs.Reports.{IsErrorReport, IsLateReport, IsOccurrenceReport, IsOwed, IsReadyReport, IsWhyReport, desk_show_refusal_of, ready_refusal_of, refusal_of, why_refusal_of};
+ghost use Rattle.plan_shows.specs.Shows.{IsShow};
 
 use super::late::late_views;
-use super::lines::Field;
-use super::rows::{ErrorRows, LateRows, OccurrenceRows, ReadyRows, moment_text};
-use super::texts::report;
+use super::rows::{ErrorRows, LateRows, OccurrenceRows, ReadyRows};
 use desk_tables::{Desk, ErrorRow, OccView, OpView, Plan};
 use plan_basics::{Moment, OpKey, Refusal, WsName};
-use plan_reasons::{why, why_text};
+use plan_shows::{Field, Show, moment_text, report, shown, why, why_text};
 use sqlite::Alter;
 use std::alloc::Global;
 
@@ -31,7 +30,7 @@ fn loaded_plan<S: Alter + Drop>(desk: &Desk<S>) -> Result<&Plan, Refusal>
 }
 
 /// What is ready on a workstation. Refused as the desk owes it, or else as `Memory`.
-pub(crate) fn ready_made<S: Alter + Drop>(
+pub fn ready_made<S: Alter + Drop>(
     alloc: Global,
     desk: &Desk<S>,
     workstation: &WsName,
@@ -56,10 +55,7 @@ pub(crate) fn ready_made<S: Alter + Drop>(
 }
 
 /// All occurrences. Refused as the desk owes it, or else as `Memory`.
-pub(crate) fn occurrences_made<S: Alter + Drop>(
-    alloc: Global,
-    desk: &Desk<S>,
-) -> Result<Vec<u8>, Refusal>
+pub fn occurrences_made<S: Alter + Drop>(alloc: Global, desk: &Desk<S>) -> Result<Vec<u8>, Refusal>
     ensures text { IfOk result (λ text. IsOccurrenceReport desk.now.plan text.items) }
     ensures none_owed { IfOk result (λ text. refusal_of desk.now.is_usable desk.now.plan ≡ None) }
     ensures refused { IfErr result (IsOwed (refusal_of desk.now.is_usable desk.now.plan)) }
@@ -92,10 +88,7 @@ fn error_rows<S: Alter + Drop>(alloc: Global, desk: &Desk<S>) -> Result<Vec<Erro
 }
 
 /// The operations in error. Refused as the desk owes it, or else as `Memory`.
-pub(crate) fn errors_made<S: Alter + Drop>(
-    alloc: Global,
-    desk: &Desk<S>,
-) -> Result<Vec<u8>, Refusal>
+pub fn errors_made<S: Alter + Drop>(alloc: Global, desk: &Desk<S>) -> Result<Vec<u8>, Refusal>
     ensures text { IfOk result (λ text. IsErrorReport desk.now.plan text.items) }
     ensures none_owed { IfOk result (λ text. refusal_of desk.now.is_usable desk.now.plan ≡ None) }
     ensures refused { IfErr result (IsOwed (refusal_of desk.now.is_usable desk.now.plan)) }
@@ -108,7 +101,7 @@ pub(crate) fn errors_made<S: Alter + Drop>(
 }
 
 /// The operations that are late. Refused as the desk owes it, or else as `Memory`.
-pub(crate) fn late_made<S: Alter + Drop>(alloc: Global, desk: &Desk<S>) -> Result<Vec<u8>, Refusal>
+pub fn late_made<S: Alter + Drop>(alloc: Global, desk: &Desk<S>) -> Result<Vec<u8>, Refusal>
     ensures text { IfOk result (λ text. IsLateReport desk.now.plan text.items) }
     ensures none_owed { IfOk result (λ text. refusal_of desk.now.is_usable desk.now.plan ≡ None) }
     ensures refused { IfErr result (IsOwed (refusal_of desk.now.is_usable desk.now.plan)) }
@@ -121,7 +114,7 @@ pub(crate) fn late_made<S: Alter + Drop>(alloc: Global, desk: &Desk<S>) -> Resul
 }
 
 /// Why an operation doesn't go on at a moment. Refused as the desk owes it, or else as `Memory`.
-pub(crate) fn why_made<S: Alter + Drop>(
+pub fn why_made<S: Alter + Drop>(
     alloc: Global,
     desk: &Desk<S>,
     key: &OpKey,
@@ -139,4 +132,21 @@ pub(crate) fn why_made<S: Alter + Drop>(
         return Err(Refusal::UnknownOperation);
     };
     Ok(why_text(alloc, key, at, &found)?)
+}
+
+/// A show of the desk. Refused as the desk owes it, or else as `Memory`.
+pub fn show_made<S: Alter + Drop>(
+    alloc: Global,
+    desk: &Desk<S>,
+    show: &Show,
+) -> Result<Vec<u8>, Refusal>
+    ensures text { IfOk result (λ text. IsShow show.now desk.now.plan desk.now.receipts text.items) }
+    ensures none_owed { IfOk result (λ text. desk_show_refusal_of desk.now.is_usable show.now desk.now.plan ≡ None) }
+    ensures refused { IfErr result (IsOwed (desk_show_refusal_of desk.now.is_usable show.now desk.now.plan)) }
+{
+    if desk.is_usable() {
+        shown(alloc, desk.plan(), desk.receipts(), show)
+    } else {
+        Err(Refusal::Reopen)
+    }
 }

@@ -3,12 +3,14 @@ ghost use Rattle.std.specs.Prelude.{◌≡◌, ◌↔◌, Err, IfErr, OnErr, OnO
 ghost use Rattle.std.specs.Io.KnownBytes.{Appends};
 ghost use Rattle.plan_basics.specs.Watched.{AppendsBeginning, failed_of, inner_of};
 ghost use Rattle.plan_basics.specs.declared.Refusal.{Refusal};
-ghost use Rattle.plan_reports.specs.Reports.{IsBegun, IsErrorReport, IsLateReport, IsOccurrenceReport, IsOwed, IsReadyReport, IsWhyReport, IsWritten, ready_refusal_of, refusal_of, why_refusal_of};
+ghost use Rattle.plan_reports.specs.Reports.{IsBegun, IsErrorReport, IsLateReport, IsOccurrenceReport, IsOwed, IsReadyReport, IsWhyReport, IsWritten, desk_show_refusal_of, ready_refusal_of, refusal_of, why_refusal_of};
 ghost use Rattle.plan_reports.specs.declared.reports.ReportFault.{ReportFault};
+ghost use Rattle.plan_shows.specs.Shows.{IsShow};
 
-use super::made::{errors_made, late_made, occurrences_made, ready_made, why_made};
+use super::made::{errors_made, late_made, occurrences_made, ready_made, show_made, why_made};
 use desk_tables::Desk;
 use plan_basics::{Moment, OpKey, Refusal, Watched, WsName};
+use plan_shows::Show;
 use sqlite::Alter;
 use std::alloc::Global;
 use std::io::Write;
@@ -144,5 +146,26 @@ pub fn why_report<S: Alter + Drop, W: Write>(
 {
     writer.clear();
     let text = why_made(alloc, desk, key, at)?;
+    deliver(&text, writer)
+}
+
+/// Writes a show of the desk: what is started, the operations of an occurrence, special resources, workstations or
+/// trackers.
+///
+/// Refused as `Reopen` after a fault of the store, else as `NotLoaded` before a plan is loaded, else as
+/// `UnknownOccurrence`, else as `Memory`. The writer is cleared first and flushed at the end.
+pub fn show_report<S: Alter + Drop, W: Write>(
+    alloc: Global,
+    desk: &Desk<S>,
+    show: &Show,
+    writer: &mut Watched<W>,
+) -> Result<(), ReportFault>
+    ensures written { OnOk result (IsWritten (desk_show_refusal_of desk.now.is_usable show.now desk.now.plan) (IsShow show.now desk.now.plan desk.now.receipts) (W.contents (inner_of writer.old)) (W.contents (inner_of writer.new))) }
+    ensures refused { (r : Refusal) → result ≡ Err (ReportFault.Refused r) → IsOwed (desk_show_refusal_of desk.now.is_usable show.now desk.now.plan) r × (inner_of writer.new ≡ inner_of writer.old) }
+    ensures writer { (result ≡ Err ReportFault.Writer) ↔ (failed_of writer.new ≡ true) }
+    ensures begun { result ≡ Err ReportFault.Writer → IsBegun (desk_show_refusal_of desk.now.is_usable show.now desk.now.plan) (IsShow show.now desk.now.plan desk.now.receipts) (W.contents (inner_of writer.old)) (W.contents (inner_of writer.new)) }
+{
+    writer.clear();
+    let text = show_made(alloc, desk, show)?;
     deliver(&text, writer)
 }

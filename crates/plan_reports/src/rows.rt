@@ -1,44 +1,10 @@
 // The rows of the reports, column by column.
-ghost use Rattle.std.specs.Prelude.{◌≡◌, ◌++◌, ℕ, List, OnOk};
-ghost use Rattle.plan_basics.specs.MomentTexts.{moment_text};
-ghost use Rattle.plan_reports.specs.Columns.{error_columns, held_text, late_columns, latest_text, occurrence_columns, ready_columns};
-ghost use Rattle.plan_reports.specs.Lines.{line};
+ghost use Rattle.plan_reports.specs.Columns.{error_columns, late_columns, occurrence_columns, ready_columns};
 
-use super::lines::{Field, put_line, right};
 use desk_tables::{ErrorRow, OccView, OpView};
-use plan_basics::{Moment, OccKey, minute_text};
+use plan_basics::OccKey;
+use plan_shows::{Field, Layout, held_text, latest_text, moment_text, put_line, right};
 use std::alloc::AllocError;
-
-/// The text of a moment.
-pub(crate) fn moment_text(moment: Moment) -> [u8; 16]
-    ensures { result ≡ moment_text moment }
-{
-    moment.to_text()
-}
-
-// The text of a latest start, sixteen hyphens where no plan can name it.
-fn latest_text(minute: i64) -> [u8; 16]
-    ensures { result ≡ latest_text minute }
-{
-    minute_text(minute)
-}
-
-// `H` where an operator holds it, else `-`.
-fn held_text(held: bool) -> [u8; 1]
-    ensures { result ≡ held_text held }
-{
-    if held { *b"H" } else { *b"-" }
-}
-
-/// How the rows of a report are laid out.
-pub(crate) trait Layout<R> {
-    // The columns of a row.
-    ghost columns: { R → List (List ℕ) };
-
-    /// Puts a row behind a text. It fails for want of memory only.
-    fn put(text: &mut Vec<u8>, row: &R) -> Result<(), AllocError>
-        ensures { OnOk result (text.new.items ≡ text.old.items ++ line (columns row.now)) };
-}
 
 /// Operations that are ready.
 pub(crate) struct ReadyRows;

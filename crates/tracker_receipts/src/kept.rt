@@ -1,7 +1,7 @@
 // The last receipt of each tracker.
 ghost use Rattle.std.specs.Prelude.{◌≡◌, ◌⊎◌, ◌↔◌, ℕ, ◌+◌, ◌<◌, ◌≤◌, List, length, true, Some, None, IsTrue, IfOk, IfSome, IsNone};
 ghost use Rattle.std.specs.FinMap as map;
-ghost use Rattle.std.specs.FinMap.{get, insert, len, contains_key};
+ghost use Rattle.std.specs.FinMap.{contains_key, entries, get, insert, len};
 ghost use Rattle.std.specs.List.Sorted.{IsBinarySearchResult, IsSearchInRange};
 ghost use Rattle.plan_basics.specs.Keys.{Name, name_cmp};
 ghost use Rattle.plan_basics.specs.declared.limits.TheConstants.{MOST_TRACKERS};
@@ -131,6 +131,13 @@ impl Receipts {
             Ok(place) => Some(&self.rows[place].1),
             Err(_) => None,
         }
+    }
+
+    /// The last receipt of each tracker that has one, by tracker.
+    pub fn rows(&self) -> &[(TrackerName, Receipt)]
+        ensures { result.now ≡ entries self.now }
+    {
+        &self.rows
     }
 
     // Whether as many trackers have one as may.

@@ -1,6 +1,6 @@
 use Rattle.std.proofs.Common.{rules, refl}
 use Rattle.plan_model.specs.Contents.{IsInPlan}
-use Rattle.plan_reasons.specs.Whys.{IsWhy}
+use Rattle.plan_shows.specs.plan_reasons.specs.Whys.{IsWhy}
 use Rattle.plan_reports.proofs.Whys.{absent_of, not_in_plan}
 use Rattle.plan_reports.proofs.made.why_made.Goals as goal
 

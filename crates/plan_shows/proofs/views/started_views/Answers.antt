@@ -1,0 +1,5 @@
+use Rattle.plan_shows.proofs.OperationLists.{are_started}
+use Rattle.plan_shows.proofs.views.started_views.Goals as goal
+
+pub returns : goal.returns
+returns c = rw c.in_ok-views.ensures (are_started c.args.plan.now.plan.contents c.clock.ensures.sound.contents.valid c.ops.result c.ops.ensures)

@@ -1,0 +1,10 @@
+pub use Rattle.plan_reasons
+pub use Rattle.plan_reasons.specs.plan_core
+pub mod Lines
+pub mod Views
+pub mod Resources
+pub mod Stations
+pub mod Trackers
+pub mod Columns
+pub mod Shows
+pub mod Values
