@@ -5,8 +5,8 @@ use Rattle.sqlite.specs.State.{State as StoreState, HasCleanDisk, Survives}
 use Rattle.sqlite.specs.Tree.{Trees}
 use Rattle.plan_records.specs.Answer.{Answer}
 use Rattle.plan_records.specs.Run.{State}
-use Rattle.desk_tables.specs.Desk.{HasTables, HoldsState, IsClean}
-use Rattle.desk_tables.specs.Shut.{IsOpenAfter}
+use Rattle.plan_reports.specs.desk_tables.specs.Desk.{HasTables, HoldsState, IsClean}
+use Rattle.plan_reports.specs.desk_tables.specs.Shut.{IsOpenAfter}
 
 module _ (old new : StoreState) where
   -- a crash may leave what it will

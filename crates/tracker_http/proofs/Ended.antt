@@ -6,7 +6,7 @@ use Rattle.sqlite.specs.Store.{Ghosts}
 use Rattle.plan_basics.specs.Watched.{AppendsBeginning}
 use Rattle.request_json.specs.declared.WireFault.{WireFault}
 use Rattle.request_json.specs.declared.WireFault.TheVariants as fault
-use Rattle.desk_tables.specs.Desk.{DeskState}
+use Rattle.plan_reports.specs.desk_tables.specs.Desk.{DeskState}
 use Rattle.tracker_http.specs.Exchange.{seen, IsTold, StaysOpen, Ends}
 use Rattle.tracker_http.specs.Told.{reply_of}
 use Rattle.tracker_http.specs.declared.told.Told.{Told}

@@ -1,2 +1,6 @@
 pub mod Ended
 pub mod Carried
+pub mod Unguarded
+pub mod Owed
+pub mod Breaking
+pub mod Ending

@@ -15,8 +15,8 @@ use Rattle.plan_records.specs.Answer.{answer_of}
 use Rattle.plan_records.specs.Run.{State, Call, plain, numbered, Usable}
 use Rattle.plan_records.specs.Run as run
 use Rattle.plan_records.specs.declared.Request.{Request}
-use Rattle.desk_tables.specs.Desk.{DeskState, state_of, usability}
-use Rattle.desk_tables.specs.Shut.{may_have_shut}
+use Rattle.plan_reports.specs.desk_tables.specs.Desk.{DeskState, state_of, usability}
+use Rattle.plan_reports.specs.desk_tables.specs.Shut.{may_have_shut}
 use Rattle.request_json.specs.Requests.{ReadsAsRequest, ReadsAsReport}
 use Rattle.request_json.specs.declared.NumberedRequest.{NumberedRequest}
 use Rattle.request_json.specs.declared.WireFault.TheVariants as fault

@@ -1,3 +1,10 @@
+pub use Rattle.desk_journal
+pub use Rattle.http_messages
+pub use Rattle.plan_reports
 pub mod Told
 pub mod Lists
 pub mod Exchange
+pub mod Guard
+pub mod Journalled
+pub mod Shown
+pub mod Served

@@ -4,11 +4,11 @@ use Rattle.std.specs.FinMap.{contains_key}
 use Rattle.plan_basics.specs.Names.{IsName}
 use Rattle.plan_basics.specs.declared.Refusal.{Refusal}
 use Rattle.plan_basics.specs.declared.Refusal.TheVariants as refusal
-use Rattle.desk_tables.specs.plan_core.specs.Views.{AreReadyViews, AreOccViews}
-use Rattle.desk_tables.specs.plan_core.specs.declared.views.OccView.{OccView}
-use Rattle.desk_tables.specs.plan_core.specs.declared.views.OpView.{OpView}
-use Rattle.desk_tables.specs.plan_model.specs.Contents.{Contents}
-use Rattle.desk_tables.specs.plan_model.specs.Plan.{Plan}
+use Rattle.plan_reports.specs.desk_tables.specs.plan_core.specs.Views.{AreReadyViews, AreOccViews}
+use Rattle.plan_reports.specs.desk_tables.specs.plan_core.specs.declared.views.OccView.{OccView}
+use Rattle.plan_reports.specs.desk_tables.specs.plan_core.specs.declared.views.OpView.{OpView}
+use Rattle.plan_reports.specs.desk_tables.specs.plan_model.specs.Contents.{Contents}
+use Rattle.plan_reports.specs.desk_tables.specs.plan_model.specs.Plan.{Plan}
 use Rattle.plan_records.specs.Run.{Usable, usable, to_be_reopened}
 use Rattle.plan_records.specs.declared.Reply.TheVariants as reply
 use Rattle.request_json.specs.declared.rows.OccurrenceRow.{OccurrenceRow}

@@ -2,16 +2,16 @@
 ghost use Rattle.std.specs.Prelude.{◌≡◌, ◌↔◌, ◌⊎◌, Err, true, false, IfOk, IfErr, OnOk, OnErr, ⊤};
 ghost use Rattle.sqlite.specs.Held.{state};
 ghost use Rattle.sqlite.specs.State.{Survives};
-ghost use Rattle.desk_tables.specs.Desk.{state_of, HoldsState, IsClean};
+ghost use Rattle.plan_reports.specs.desk_tables.specs.Desk.{state_of, HoldsState, IsClean};
 ghost use Rattle.std.specs.Io.KnownBytes.{Appends};
 ghost use Rattle.plan_basics.specs.Watched.{inner_of, failed_of, AppendsBeginning};
 ghost use Rattle.tracker_http.specs.Exchange.{seen, IsTold, Ends, StaysOpen};
 
 use super::asking::tell;
 use super::told::Told;
-use desk_tables::Desk;
 use http_messages::{ExchangeFault, read_exchange};
 use plan_basics::Watched;
+use plan_reports::Desk;
 use request_json::WireFault;
 use sqlite::Alter;
 use std::alloc::Global;
@@ -40,8 +40,8 @@ fn told_to<R: Read, S: Alter + Drop>(
     }
 }
 
-// Writes a reply whole, and flushes it.
-fn send<W: Write>(writer: &mut Watched<W>, reply: &[u8]) -> Result<(), WireFault>
+/// Writes a reply whole, and flushes it. `Writer` where the writer answered a fault: a beginning of it is written.
+pub fn send<W: Write>(writer: &mut Watched<W>, reply: &[u8]) -> Result<(), WireFault>
     requires fresh { failed_of writer.old ≡ false }
     ensures whole { OnOk result (Appends (W.contents (inner_of writer.old)) (W.contents (inner_of writer.new)) reply.now) }
     ensures beginning { AppendsBeginning (W.contents (inner_of writer.old)) (W.contents (inner_of writer.new)) reply.now }

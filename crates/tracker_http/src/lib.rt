@@ -14,10 +14,23 @@
 
 mod asking;
 mod exchange;
+mod journalling;
 mod lists;
+mod served;
+mod showing;
 mod told;
 
-pub use desk_tables::{Desk, open_again};
-pub use exchange::serve_one;
+pub use asking::tell_within;
+pub use desk_journal::{Entry, Journal, JournalFault, read_entry};
+pub use exchange::{send, serve_one};
+pub use http_messages::Asked;
+pub use journalling::{journalled, line_told};
 pub use plan_records::Reply;
+pub use plan_reports::{
+    Desk, Plan, ReportFault, Show, answer_alone, error_report, late_report, occurrence_report,
+    open_again, ready_report, run_all, show_report, why_report,
+};
 pub use request_json::{WireFault, read_operator};
+pub use served::{MOST_SERVED_BYTES, ServeFault, serve_wanted};
+pub use showing::look_shown;
+pub use told::Told;

@@ -34,7 +34,8 @@ fn refusal_status(refusal: Refusal) -> Status
 }
 
 impl Told {
-    fn status(&self) -> Status
+    /// The status of the reply.
+    pub fn status(&self) -> Status
         ensures { result ≡ status_of self.now }
     {
         match self {
@@ -45,7 +46,8 @@ impl Told {
         }
     }
 
-    fn body(&self, alloc: Global) -> Result<Vec<u8>, AllocError>
+    /// The body of the reply, which is JSON. It fails for want of memory only.
+    pub fn body(&self, alloc: Global) -> Result<Vec<u8>, AllocError>
         ensures { IfOk result (λ text. text.items ≡ compact_text (body_of self.now)) }
     {
         match self {
@@ -57,7 +59,7 @@ impl Told {
     }
 
     /// The bytes of the reply. It fails for want of memory only.
-    pub(crate) fn reply(&self, alloc: Global) -> Result<Vec<u8>, AllocError>
+    pub fn reply(&self, alloc: Global) -> Result<Vec<u8>, AllocError>
         ensures { IfOk result (λ bytes. bytes.items ≡ reply_of self.now) }
     {
         reply_bytes(alloc, self.status(), &self.body(alloc)?)
