@@ -1,9 +1,10 @@
 -- What is shown of the faults of a text.
-use Rattle.std.proofs.Common.{◌≡◌, ◌↔◌, refl, ℕ, List, [], ◌∷◌, length, Option, Result, IfOk}
+use Rattle.std.proofs.Common.{◌≡◌, ◌↔◌, refl, codes, ℕ, List, [], ◌∷◌, length, Option, Result, IfOk}
 use Rattle.std.specs.Io.KnownBytes.{Appends}
 use Rattle.std.proofs.KnownBytes.{Appends-trans}
 use Rattle.std.proofs.lemmas.Result.{IfOk-weaker}
-use Rattle.command_answers.specs.Judged.{AreFaultsShown, IsJudged, count_line, ending_of_count}
+use Rattle.request_json.specs.RequestFaults.{ReadsAsSomeRequest}
+use Rattle.command_answers.specs.Judged.{AreFaultsShown, IsJudged, IsRequestJudged, count_line, ending_of_count}
 use Rattle.command_answers.specs.declared.endings.Ending.{Ending}
 use Rattle.command_answers.specs.declared.endings.Fault.{Fault}
 
@@ -33,3 +34,16 @@ pub read_judged : (Denotes : List ℕ → Type 0) (text : List ℕ) (old new : O
 read_judged Denotes text old new r shown =
     IfOk-weaker r (IsJudged (Denotes text) old new) (λ e. (bytes : List ℕ) × IsJudged (Denotes bytes) old new e)
     (λ (e : Ending) (was : IsJudged (Denotes text) old new e). (text, was)) shown
+
+module _ (word : List ℕ) (old new : Option (List ℕ)) (r : Result Ending Fault) where
+  -- a request that was read, where the word is a hyphen
+  pub input_judged : word ≡ codes "-" → IfOk r (λ e. (text : List ℕ) × IsJudged (ReadsAsSomeRequest text) old new e) → IfOk r (IsRequestJudged word old new)
+  input_judged hyphen shown =
+      IfOk-weaker r (λ e. (text : List ℕ) × IsJudged (ReadsAsSomeRequest text) old new e) (IsRequestJudged word old new)
+      (λ (e : Ending) (was : (text : List ℕ) × IsJudged (ReadsAsSomeRequest text) old new e). (was.0, λ other. absurd (other hyphen), was.1)) shown
+
+  -- the request that the word is
+  pub word_judged : (text : List ℕ) → text ≡ word → IfOk r (IsJudged (ReadsAsSomeRequest text) old new) → IfOk r (IsRequestJudged word old new)
+  word_judged text is shown =
+      IfOk-weaker r (IsJudged (ReadsAsSomeRequest text) old new) (IsRequestJudged word old new)
+      (λ (e : Ending) (was : IsJudged (ReadsAsSomeRequest text) old new e). (text, λ _. is, was)) shown

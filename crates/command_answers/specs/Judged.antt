@@ -1,6 +1,7 @@
--- What the program shows of the faults of a text: of a plan's, or of an extension's.
-use Rattle.std.specs.Prelude.{◌≡◌, ◌↔◌, ◌==◌, if◌then◌else◌, ℕ, List, ◌++◌, Option, Some, None, codes, decimal}
+-- What the program shows of the faults of a text: of a plan's, of an extension's, or of a request's.
+use Rattle.std.specs.Prelude.{◌≡◌, ◌≢◌, ◌↔◌, ◌==◌, if◌then◌else◌, ℕ, List, ◌++◌, Option, Some, None, codes, decimal}
 use Rattle.std.specs.Io.KnownBytes.{Appends}
+use Rattle.request_json.specs.RequestFaults.{ReadsAsSomeRequest}
 use Rattle.text_faults.specs.TextFaults.{TextDenotesSome}
 use Rattle.text_faults.specs.AddedTexts.{TextDenotesSomeAdded}
 use Rattle.text_faults.specs.declared.additions.faults.AddedText.TheVariants as text
@@ -25,7 +26,12 @@ abbrev pub IsJudged : Type 0 → Option (List ℕ) → Option (List ℕ) → End
 IsJudged Denotes old new e =
     (count : ℕ) × (told : List ℕ) × Appends old new (told ++ count_line count) × (e ≡ ending_of_count count) × ((count ≡ 0) ↔ Denotes)
 
--- some text was judged: as an extension's where the words give a file of one, else as a plan's
-abbrev pub IsValidated : Option (List ℕ) → Option (List ℕ) → Option (List ℕ) → Ending → Type 0
-IsValidated (Some extension) old new e = (bytes : List ℕ) × IsJudged (TextDenotesSomeAdded text.Extension bytes) old new e
-IsValidated None old new e = (bytes : List ℕ) × IsJudged (TextDenotesSome bytes) old new e
+-- the request that a word gives was judged: the word itself, or else what standard input has, where the word is a hyphen
+abbrev pub IsRequestJudged : List ℕ → Option (List ℕ) → Option (List ℕ) → Ending → Type 0
+IsRequestJudged word old new e = (bytes : List ℕ) × (word ≢ codes "-" → bytes ≡ word) × IsJudged (ReadsAsSomeRequest bytes) old new e
+
+-- some text was judged: as a request's where the words give one, as an extension's where they give a file of one, else as a plan's
+abbrev pub IsValidated : Option (List ℕ) → Option (List ℕ) → Option (List ℕ) → Option (List ℕ) → Ending → Type 0
+IsValidated (Some request) extension old new e = IsRequestJudged request old new e
+IsValidated None (Some extension) old new e = (bytes : List ℕ) × IsJudged (TextDenotesSomeAdded text.Extension bytes) old new e
+IsValidated None None old new e = (bytes : List ℕ) × IsJudged (TextDenotesSome bytes) old new e

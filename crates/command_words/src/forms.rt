@@ -5,8 +5,10 @@
 pub enum ValueForm {
     Text,
     Kind,
+    Show,
     Port,
     Connections,
+    Minutes,
 }
 
 /// When an option has to be given.
@@ -14,8 +16,10 @@ pub enum ValueForm {
 pub enum Need {
     Always,
     Never,
-    /// Just where this other one isn't given.
-    InPlaceOf(&'static str),
+    /// Just where none of these others is given.
+    InPlaceOf(&'static [&'static str]),
+    /// It may be given where this other one isn't.
+    NotWith(&'static str),
     /// It may be given, and this other one then has to be.
     Together(&'static str),
 }
@@ -64,11 +68,19 @@ const MOMENT: OptionForm = OptionForm {
     need: Need::Always,
 };
 
+const PORT: OptionForm = OptionForm {
+    name: "port",
+    value_name: "PORT",
+    help: "The port, on 127.0.0.1: 1 to 65535",
+    value: ValueForm::Port,
+    need: Need::Always,
+};
+
 /// All commands.
-pub const COMMANDS: [CommandForm; 9] = [
+pub const COMMANDS: [CommandForm; 11] = [
     CommandForm {
         name: "validate",
-        about: "Tells what is wrong with a plan or an extension, record by record; nothing is stored",
+        about: "Tells what is wrong with a plan, an extension or a request; nothing is stored",
         example: "Example: plandesk validate --plan day.csv",
         options: &[
             OptionForm {
@@ -76,12 +88,19 @@ pub const COMMANDS: [CommandForm; 9] = [
                 value_name: "FILE",
                 help: "The plan, as records of ten fields",
                 value: ValueForm::Text,
-                need: Need::InPlaceOf("extension"),
+                need: Need::InPlaceOf(&["extension", "request"]),
             },
             OptionForm {
                 name: "extension",
                 value_name: "FILE",
                 help: "In place of --plan: an extension, judged as far as it can be without the plan",
+                value: ValueForm::Text,
+                need: Need::NotWith("request"),
+            },
+            OptionForm {
+                name: "request",
+                value_name: "TEXT",
+                help: "In place of --plan: a request, as `do` takes it; - is standard input",
                 value: ValueForm::Text,
                 need: Need::Never,
             },
@@ -153,6 +172,28 @@ pub const COMMANDS: [CommandForm; 9] = [
         ],
     },
     CommandForm {
+        name: "show",
+        about: "Shows what the desk of a database has: what is started, operations, resources, workstations or trackers",
+        example: "Example: plandesk show --db night.db --kind operations --occ PAYROLL/2024-03-01T22:00",
+        options: &[
+            DATABASE,
+            OptionForm {
+                name: "kind",
+                value_name: "KIND",
+                help: "What is shown",
+                value: ValueForm::Show,
+                need: Need::Always,
+            },
+            OptionForm {
+                name: "occ",
+                value_name: "KEY",
+                help: "The occurrence, as PAYROLL/2024-03-01T22:00: needed for `operations`, not looked at otherwise",
+                value: ValueForm::Text,
+                need: Need::Never,
+            },
+        ],
+    },
+    CommandForm {
         name: "why",
         about: "Tells why an operation doesn't go on at a moment, and what it waits for in the end",
         example: "Example: plandesk why --db night.db --op PAYROLL/2024-03-01T22:00/010",
@@ -162,7 +203,7 @@ pub const COMMANDS: [CommandForm; 9] = [
                 value_name: "FILE",
                 help: "The database of the desk",
                 value: ValueForm::Text,
-                need: Need::InPlaceOf("plan"),
+                need: Need::InPlaceOf(&["plan"]),
             },
             OptionForm {
                 name: "plan",
@@ -193,19 +234,43 @@ pub const COMMANDS: [CommandForm; 9] = [
         example: "Example: plandesk serve --db night.db --port 8080 --requests 1000",
         options: &[
             DATABASE,
-            OptionForm {
-                name: "port",
-                value_name: "PORT",
-                help: "The port, on 127.0.0.1: 1 to 65535",
-                value: ValueForm::Port,
-                need: Need::Always,
-            },
+            PORT,
             OptionForm {
                 name: "requests",
                 value_name: "NUMBER",
                 help: "How many connections are served: 1 to 1000000",
                 value: ValueForm::Connections,
                 need: Need::Always,
+            },
+        ],
+    },
+    CommandForm {
+        name: "desk",
+        about: "Serves trackers and operators over HTTP for good, and whoever looks at the desk",
+        example: "Example: plandesk desk --db night.db --port 8080 --journal night.log",
+        options: &[
+            DATABASE,
+            PORT,
+            OptionForm {
+                name: "at",
+                value_name: "MOMENT",
+                help: "A moment, as 2024-03-01T22:00, to which the plan is brought first, where that is later than its clock",
+                value: ValueForm::Text,
+                need: Need::Never,
+            },
+            OptionForm {
+                name: "ahead",
+                value_name: "MINUTES",
+                help: "How far after the plan's clock a request's moment may be: 1 to 5256000 minutes, 1440 where it isn't given",
+                value: ValueForm::Minutes,
+                need: Need::Never,
+            },
+            OptionForm {
+                name: "journal",
+                value_name: "FILE",
+                help: "Where a line for each request and one for its answer are appended; made where there is none",
+                value: ValueForm::Text,
+                need: Need::Never,
             },
         ],
     },
@@ -221,7 +286,14 @@ pub const COMMANDS: [CommandForm; 9] = [
                 value_name: "FILE",
                 help: "The requests, one to a line, as `do` takes them; - is standard input",
                 value: ValueForm::Text,
-                need: Need::Always,
+                need: Need::InPlaceOf(&["journal"]),
+            },
+            OptionForm {
+                name: "journal",
+                value_name: "FILE",
+                help: "In place of --requests: the journal of a desk, from the load on; its answers are compared",
+                value: ValueForm::Text,
+                need: Need::Never,
             },
         ],
     },

@@ -8,10 +8,19 @@ use clap::{Arg, ArgAction, ArgMatches, Command};
 use std::alloc::{AllocError, Global};
 
 /// The version of the newest entry of CHANGELOG.md.
-const VERSION: &str = "0.17.0";
+const VERSION: &str = "0.18.0";
 
 /// The kinds of a report.
 const KINDS: [&str; 4] = ["ready", "occurrences", "errors", "late"];
+
+/// The kinds of a show.
+const SHOWS: [&str; 5] = [
+    "started",
+    "operations",
+    "resources",
+    "workstations",
+    "trackers",
+];
 
 /// A long option with one value, wherever it need not be given.
 fn option<'a>(alloc: Global, name: &'a str, value_name: &'a str, help: &'a str) -> Arg<'a> {
@@ -27,16 +36,20 @@ fn typed<'a>(option: Arg<'a>, value: ValueForm) -> Arg<'a> {
     match value {
         ValueForm::Text => option,
         ValueForm::Kind => option.value_parser(KINDS.as_slice()),
+        ValueForm::Show => option.value_parser(SHOWS.as_slice()),
         ValueForm::Port => option.value_parser(clap::value_parser!(u16).range(1..)),
         ValueForm::Connections => option.value_parser(clap::value_parser!(u32).range(
             1..=1_000_000,
         )),
+        ValueForm::Minutes => option.value_parser(clap::value_parser!(u32).range(1..=5_256_000)),
     }
 }
 
-/// An option that is given just where this other one isn't.
-fn in_place_of<'a>(option: Arg<'a>, other: &'a str) -> Result<Arg<'a>, AllocError> {
-    option.required_unless_present(other)?.conflicts_with(other)
+/// An option that is given just where none of these others is.
+fn in_place_of<'a>(option: Arg<'a>, others: &[&'a str]) -> Result<Arg<'a>, AllocError> {
+    option
+        .required_unless_present_any(others)?
+        .conflicts_with_all(others)
 }
 
 /// An option that is given when it has to be.
@@ -44,7 +57,8 @@ fn needed<'a>(option: Arg<'a>, need: Need) -> Result<Arg<'a>, AllocError> {
     match need {
         Need::Always => Ok(option.required(true)),
         Need::Never => Ok(option),
-        Need::InPlaceOf(other) => in_place_of(option, other),
+        Need::InPlaceOf(others) => in_place_of(option, others),
+        Need::NotWith(other) => option.conflicts_with(other),
         Need::Together(other) => option.requires_arg(other),
     }
 }

@@ -2,9 +2,9 @@
 use Rattle.std.proofs.Common.{◌≡◌, refl, sym, subst, List, ℕ, Option, Result, Ok, Err, OnOk}
 use Rattle.std.specs.Io.KnownBytes.{Appends}
 use Rattle.plan_basics.specs.declared.Refusal.{Refusal}
-use Rattle.plan_reports.specs.Reports.{IsOwed, IsWritten}
-use Rattle.plan_reports.specs.declared.reports.ReportFault.{ReportFault}
-use Rattle.plan_reports.specs.declared.reports.ReportFault.TheVariants as report_fault
+use Rattle.tracker_http.specs.plan_reports.specs.Reports.{IsOwed, IsWritten}
+use Rattle.tracker_http.specs.plan_reports.specs.declared.reports.ReportFault.{ReportFault}
+use Rattle.tracker_http.specs.plan_reports.specs.declared.reports.ReportFault.TheVariants as report_fault
 use Rattle.command_answers.specs.Answers.{refusal_line}
 use Rattle.desk_commands.specs.Shown.{IsEndOf, IsTold}
 use Rattle.command_answers.specs.declared.endings.Ending.{Ending}

@@ -5,7 +5,7 @@ use Rattle.plan_basics.specs.Minutes.{IsMinuteText}
 use Rattle.desk_commands.specs.Databases.{IsAnswerToLoad}
 use Rattle.plan_model.specs.Contents.{Contents}
 use Rattle.plan_records.specs.Answer.{Answer, accepted, refused}
-use Rattle.plan_reports.specs.plan_core.specs.Trials.{IsAnswerAlone}
+use Rattle.tracker_http.specs.plan_reports.specs.plan_core.specs.Trials.{IsAnswerAlone}
 use Rattle.sqlite.specs.State.{State as StoreState}
 use Rattle.command_answers.specs.Answers.{IsShown}
 use Rattle.desk_commands.specs.Loads.{IsCheckShown, IsLoadAnswer, IsLoadOf, IsLoadShown}

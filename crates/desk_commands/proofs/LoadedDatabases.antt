@@ -10,8 +10,8 @@ use Rattle.store_schema.specs.Tables.{no_schema}
 use Rattle.plan_basics.specs.declared.Refusal.{Refusal}
 use Rattle.plan_basics.specs.declared.Refusal.TheVariants as refusal
 use Rattle.plan_model.specs.Contents.{Contents}
-use Rattle.plan_reports.specs.store_reads.specs.Reads.{OnlyReads}
-use Rattle.plan_reports.specs.store_reads.specs.Versions.{HasTableQuantity}
+use Rattle.tracker_http.specs.plan_reports.specs.store_reads.specs.Reads.{OnlyReads}
+use Rattle.tracker_http.specs.plan_reports.specs.store_reads.specs.Versions.{HasTableQuantity}
 use Rattle.plan_records.specs.Answer.{Answer, accepted, refused}
 use Rattle.plan_records.specs.Run.{Answers, CallStep, State, empty_state, plain, usable}
 use Rattle.plan_records.specs.Step.{Step}
@@ -19,12 +19,12 @@ use Rattle.plan_records.specs.declared.Request.{Request}
 use Rattle.store_schema.specs.Schema.{desk_schema, first_schema, schema_of}
 use Rattle.store_schema.specs.declared.texts.Version.{Version}
 use Rattle.store_schema.specs.declared.texts.Version.TheVariants.{First, Second}
-use Rattle.plan_reports.specs.desk_tables.specs.Desk.{DeskState, HasFirstTables, HasTables, HoldsNoStateIn, HoldsState, state_of, usability}
-use Rattle.plan_reports.specs.desk_tables.specs.Opening.{IsOpenedFirst}
-use Rattle.plan_reports.specs.desk_tables.proofs.Held.{brought_up}
-use Rattle.plan_reports.specs.desk_tables.proofs.Stopped.{desk_has_quantity}
-use Rattle.plan_reports.specs.desk_tables.specs.Faults.{IsOpeningRefusal}
-use Rattle.plan_reports.specs.desk_tables.specs.Shut.{IsOpenAfter, may_have_shut}
+use Rattle.tracker_http.specs.plan_reports.specs.desk_tables.specs.Desk.{DeskState, HasFirstTables, HasTables, HoldsNoStateIn, HoldsState, state_of, usability}
+use Rattle.tracker_http.specs.plan_reports.specs.desk_tables.specs.Opening.{IsOpenedFirst}
+use Rattle.tracker_http.specs.plan_reports.specs.desk_tables.proofs.Held.{brought_up}
+use Rattle.tracker_http.specs.plan_reports.specs.desk_tables.proofs.Stopped.{desk_has_quantity}
+use Rattle.tracker_http.specs.plan_reports.specs.desk_tables.specs.Faults.{IsOpeningRefusal}
+use Rattle.tracker_http.specs.plan_reports.specs.desk_tables.specs.Shut.{IsOpenAfter, may_have_shut}
 use Rattle.desk_commands.specs.Databases.{HasNoTable, HasSchema, IsAnswerToLoad, IsDamaged, IsForDesk, IsStateAt, load_request}
 
 -- what is found of a schema that has no table

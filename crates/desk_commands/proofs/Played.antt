@@ -10,7 +10,7 @@ use Rattle.plan_model.specs.Contents.{Contents}
 use Rattle.plan_records.specs.Answer.{Answer, accepted, refused}
 use Rattle.plan_records.specs.Run.{Answers, State, Usable, empty_state, plain}
 use Rattle.plan_records.specs.declared.Request.{Request}
-use Rattle.plan_reports.specs.desk_tables.specs.Desk.{usability}
+use Rattle.tracker_http.specs.plan_reports.specs.desk_tables.specs.Desk.{usability}
 use Rattle.command_answers.specs.request_json.specs.Requests.{ReadsAsRequest}
 use Rattle.command_answers.specs.Statuses.{IsOfSurroundings}
 use Rattle.command_answers.specs.Answers.{IsShown, answer_text}

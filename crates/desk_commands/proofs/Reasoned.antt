@@ -8,10 +8,10 @@ use Rattle.plan_model.specs.Contents.{Contents}
 use Rattle.plan_model.specs.Plan.{Plan}
 use Rattle.plan_records.specs.Answer.{accepted, refused}
 use Rattle.plan_records.specs.Run.{State}
-use Rattle.plan_reports.specs.desk_tables.specs.Faults.{IsOpeningRefusal}
-use Rattle.plan_reports.specs.Reports.{IsOwed, IsWhyReport, IsWritten, why_refusal_of}
-use Rattle.plan_reports.specs.declared.reports.ReportFault.{ReportFault}
-use Rattle.plan_reports.specs.declared.reports.ReportFault.TheVariants as report_fault
+use Rattle.tracker_http.specs.plan_reports.specs.desk_tables.specs.Faults.{IsOpeningRefusal}
+use Rattle.tracker_http.specs.plan_reports.specs.Reports.{IsOwed, IsWhyReport, IsWritten, why_refusal_of}
+use Rattle.tracker_http.specs.plan_reports.specs.declared.reports.ReportFault.{ReportFault}
+use Rattle.tracker_http.specs.plan_reports.specs.declared.reports.ReportFault.TheVariants as report_fault
 use Rattle.command_answers.specs.Answers.{IsShown}
 use Rattle.command_answers.specs.Opened.{IsWhyNoDesk, IsNoneShown}
 use Rattle.desk_commands.specs.Shown.{IsEndOf}

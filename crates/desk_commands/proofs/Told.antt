@@ -1,4 +1,4 @@
--- What is shown of a request and of a report that were asked for.
+-- What is shown of a request, of a report and of a show that were asked for.
 use Rattle.std.proofs.Common.{◌≡◌, ◌⊎◌, refl, inl, inr, rules, ℕ, ◌<◌, ℤ, Bool, List, [], ◌∷◌, ◌++◌, length, map, Option, Result, Err, IfOk, IfErr}
 use Rattle.std.proofs.lemmas.Result.{IfErr-weaker, IfOk-weaker}
 use Rattle.plan_basics.specs.Minutes.{IsMinuteText}
@@ -11,13 +11,15 @@ use Rattle.plan_records.specs.Run.{State, Usable}
 use Rattle.plan_records.specs.Run as calls
 use Rattle.plan_records.specs.declared.Reply.{Reply}
 use Rattle.plan_records.specs.declared.Request.{Request}
-use Rattle.plan_reports.specs.desk_tables.specs.Faults.{IsOpeningRefusal}
-use Rattle.plan_reports.specs.desk_tables.specs.Runs.{AreAnswered}
+use Rattle.tracker_http.specs.plan_reports.specs.desk_tables.specs.Faults.{IsOpeningRefusal}
+use Rattle.tracker_http.specs.plan_reports.specs.desk_tables.specs.Runs.{AreAnswered}
 use Rattle.command_answers.specs.request_json.specs.Requests.{ReadsAsRequest}
 use Rattle.command_answers.specs.Answers.{IsShown}
 use Rattle.desk_commands.specs.Asked.{IsAnswerTo, IsExtendShown, IsRequestAnswered, IsRequestShown, extend_request}
 use Rattle.command_answers.specs.Given.{AsksReport}
-use Rattle.desk_commands.specs.Shown.{IsReportAsked, IsReportShown}
+use Rattle.desk_commands.specs.Shown.{AsksShow, IsReportAsked, IsReportShown, IsShowAsked, IsShowShown}
+use Rattle.plan_records.specs.Step.{Receipts}
+use Rattle.tracker_http.specs.plan_reports.specs.plan_shows.specs.declared.shows.Show.{Show}
 use Rattle.command_answers.specs.Opened.{IsWhyNoDesk, IsNoneShown}
 use Rattle.command_answers.specs.Statuses.{IsOfSurroundings}
 use Rattle.command_answers.specs.declared.endings.Ending.{Ending}
@@ -100,4 +102,19 @@ module _ (r : Result Ending Fault) (old new : Option (List ℕ)) where
   report_refused word ws k none asks why shown =
       IfOk-weaker r (λ e. (p : Refusal) × IsOpeningRefusal p × IsShown (refused p) old new e) (IsReportAsked word ws old new)
       (λ (e : Ending) (was : (p : Refusal) × IsOpeningRefusal p × IsShown (refused p) old new e). (k, asks, inr was))
+      (none_shown IsOpeningRefusal none r old new why shown)
+
+  -- the show that words ask for, of a desk
+  pub show_shown : (word : List ℕ) (occ : Option (List ℕ)) (s : Show) (usable : Bool) (P : Plan) (T : Receipts)
+      → AsksShow word occ s → IfOk r (IsShowShown s usable P T old new) → IfOk r (IsShowAsked word occ old new)
+  show_shown word occ s usable P T asks shown =
+      IfOk-weaker r (IsShowShown s usable P T old new) (IsShowAsked word occ old new)
+      (λ (e : Ending) (is : IsShowShown s usable P T old new e). (s, asks, inl (usable, P, T, is))) shown
+
+  -- why no desk could be opened for it
+  pub show_refused : (word : List ℕ) (occ : Option (List ℕ)) (s : Show) (none : NoDesk)
+      → AsksShow word occ s → IsWhyNoDesk IsOpeningRefusal none → IfOk r (IsNoneShown none old new) → IfOk r (IsShowAsked word occ old new)
+  show_refused word occ s none asks why shown =
+      IfOk-weaker r (λ e. (p : Refusal) × IsOpeningRefusal p × IsShown (refused p) old new e) (IsShowAsked word occ old new)
+      (λ (e : Ending) (was : (p : Refusal) × IsOpeningRefusal p × IsShown (refused p) old new e). (s, asks, inr was))
       (none_shown IsOpeningRefusal none r old new why shown)

@@ -7,7 +7,7 @@ use Rattle.plan_records.specs.Answer.{Answer, refused}
 use Rattle.plan_records.specs.Run.{Answers, State, Usable, plain}
 use Rattle.plan_records.specs.declared.Request.{Request}
 use Rattle.plan_records.specs.declared.What.TheVariants.{Extend}
-use Rattle.plan_reports.specs.desk_tables.specs.Faults.{IsOpeningRefusal}
+use Rattle.tracker_http.specs.plan_reports.specs.desk_tables.specs.Faults.{IsOpeningRefusal}
 use Rattle.command_answers.specs.request_json.specs.Requests.{ReadsAsRequest}
 use Rattle.command_answers.specs.Answers.{IsShown}
 use Rattle.command_answers.specs.declared.endings.Ending.{Ending}

@@ -10,9 +10,9 @@ use Rattle.plan_records.specs.Answer.{Answer, accepted, refused}
 use Rattle.plan_records.specs.Run.{CallStep, State, empty_state, plain}
 use Rattle.store_schema.specs.Schema.{first_schema, desk_schema, schema_of}
 use Rattle.store_schema.specs.declared.texts.Version.{Version}
-use Rattle.plan_reports.specs.desk_tables.specs.Desk.{HoldsNoStateIn, HoldsState, HoldsStateIn}
-use Rattle.plan_reports.specs.desk_tables.specs.Faults.{IsOpeningRefusal}
-use Rattle.plan_reports.specs.desk_tables.specs.Shut.{IsOpenAfter}
+use Rattle.tracker_http.specs.plan_reports.specs.desk_tables.specs.Desk.{HoldsNoStateIn, HoldsState, HoldsStateIn}
+use Rattle.tracker_http.specs.plan_reports.specs.desk_tables.specs.Faults.{IsOpeningRefusal}
+use Rattle.tracker_http.specs.plan_reports.specs.desk_tables.specs.Shut.{IsOpenAfter}
 use Rattle.plan_records.specs.declared.Request.{Request}
 use Rattle.plan_records.specs.declared.What.TheVariants.{Load}
 

@@ -1,6 +1,9 @@
+pub use Rattle.tracker_http
 pub mod Asked
 pub mod Loads
+pub mod Replays
 pub mod Shown
 pub mod Turns
 pub mod Whys
 pub mod Databases
+pub mod Ticks

@@ -6,8 +6,8 @@ use Rattle.desk_commands.specs.Databases.{load_request}
 use Rattle.plan_model.specs.Contents.{Contents}
 use Rattle.plan_records.specs.Answer.{Answer, refused}
 use Rattle.plan_records.specs.Run.{CallStep, State, plain}
-use Rattle.plan_reports.specs.plan_core.specs.Trials.{IsAnswerAlone}
-use Rattle.plan_reports.specs.desk_tables.specs.Faults.{IsOpeningRefusal}
+use Rattle.tracker_http.specs.plan_reports.specs.plan_core.specs.Trials.{IsAnswerAlone}
+use Rattle.tracker_http.specs.plan_reports.specs.desk_tables.specs.Faults.{IsOpeningRefusal}
 use Rattle.command_answers.specs.Answers.{IsShown}
 use Rattle.command_answers.specs.declared.endings.Ending.{Ending}
 

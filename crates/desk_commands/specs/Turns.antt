@@ -10,7 +10,7 @@ use Rattle.plan_model.specs.Contents.{Contents}
 use Rattle.plan_records.specs.Answer.{Answer, accepted, refused}
 use Rattle.plan_records.specs.Run.{Answers, State, Usable, empty_state, plain, usable}
 use Rattle.plan_records.specs.declared.Request.{Request}
-use Rattle.plan_reports.specs.desk_tables.specs.Faults.{IsOpeningRefusal}
+use Rattle.tracker_http.specs.plan_reports.specs.desk_tables.specs.Faults.{IsOpeningRefusal}
 use Rattle.command_answers.specs.request_json.specs.Requests.{ReadsAsRequest}
 use Rattle.command_answers.specs.Answers.{IsShown, answer_text, line}
 use Rattle.command_answers.specs.Given.{IsNoRequest}
@@ -81,8 +81,8 @@ IsLinePlayed n text s u old new (Err f) t v = IsOfSurroundings f
 abbrev pub IsTurnShown : Answer → Option (List ℕ) → Option (List ℕ) → Bool → Type 0
 IsTurnShown a old new refuses = Appends old new (answer_text a) × (refuses ≡ is_refusal a)
 
--- the number of a line was shown that is no request; or the surroundings are at fault
-abbrev pub IsNumberShown : ℕ → Option (List ℕ) → Option (List ℕ) → Result Bool Fault → Type 0
+-- the number of a line was shown that is none of its text's; or the surroundings are at fault
+abbrev pub IsNumberShown : {X : Type 0} → ℕ → Option (List ℕ) → Option (List ℕ) → Result X Fault → Type 0
 IsNumberShown n old new (Ok refuses) = ⊥
 IsNumberShown n old new (Err fault.Request) = Appends old new (number_line n)
 IsNumberShown n old new (Err f) = IsOfSurroundings f

@@ -9,8 +9,8 @@ use Rattle.plan_model.specs.Contents.{Contents}
 use Rattle.plan_model.specs.Plan.{Plan}
 use Rattle.plan_records.specs.Answer.{accepted, refused}
 use Rattle.plan_records.specs.Run.{State}
-use Rattle.plan_reports.specs.desk_tables.specs.Faults.{IsOpeningRefusal}
-use Rattle.plan_reports.specs.Reports.{IsWhyReport, why_refusal_of}
+use Rattle.tracker_http.specs.plan_reports.specs.desk_tables.specs.Faults.{IsOpeningRefusal}
+use Rattle.tracker_http.specs.plan_reports.specs.Reports.{IsWhyReport, why_refusal_of}
 use Rattle.command_answers.specs.Answers.{IsShown}
 use Rattle.command_answers.specs.Given.{IsMinuteGiven}
 use Rattle.desk_commands.specs.Shown.{IsTold}

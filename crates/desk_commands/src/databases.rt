@@ -2,16 +2,16 @@
 ghost use Rattle.std.specs.Prelude.{◌≡◌, false, IfOk, IfErr};
 ghost use Rattle.command_answers.specs.Opened.{IsWhyNoDesk};
 ghost use Rattle.command_answers.specs.Statuses.{IsOfSurroundings};
-ghost use Rattle.plan_reports.specs.desk_tables.specs.Faults.{IsOpeningRefusal};
+ghost use Rattle.tracker_http.specs.plan_reports.specs.desk_tables.specs.Faults.{IsOpeningRefusal};
 
 use command_answers::{Fault, NoDesk};
 use plan_basics::Refusal;
 use plan_records::Reply;
-use plan_reports::Desk;
 use sqlite::{Alter, Connection, File, FileStore};
 use std::alloc::Global;
 use std::fs;
 use std::rt::HostRuntime;
+use tracker_http::Desk;
 
 /// The store of a database that is a file, with its log beside it.
 pub type DatabaseFile = FileStore<File>;

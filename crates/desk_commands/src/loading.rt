@@ -14,12 +14,12 @@ use clap::ArgMatches;
 use command_answers::{Ending, Fault, moment_of, plan_of_file, tell};
 use command_words::value_of;
 use plan_basics::Watched;
-use plan_drafts::PlanDraft;
-use plan_reports::answer_alone;
+use plan_records::PlanDraft;
 use sqlite::{Alter, Connection};
 use std::alloc::Global;
 use std::io::Write;
 use std::rt::HostRuntime;
+use tracker_http::answer_alone;
 
 /// `check`: what an empty desk answers to the load of a file's plan. The moment is judged before the file.
 pub fn check<W: Write>(

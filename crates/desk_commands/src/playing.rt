@@ -11,25 +11,22 @@ ghost use Rattle.command_answers.specs.declared.endings.Ending.{Ending as Ended}
 ghost use Rattle.plan_records.specs.Answer.{Answer, accepted, answer_of};
 ghost use Rattle.plan_records.specs.Run.{Answers, empty_state, plain};
 ghost use Rattle.desk_commands.specs.Databases.{load_request};
-ghost use Rattle.plan_reports.specs.desk_tables.specs.Faults.{IsOpeningRefusal};
+ghost use Rattle.tracker_http.specs.plan_reports.specs.desk_tables.specs.Faults.{IsOpeningRefusal};
 ghost use Rattle.command_answers.specs.request_json.specs.Requests.{ReadsAsRequest};
-ghost use Rattle.plan_reports.specs.desk_tables.specs.Desk.{state_of, usability};
+ghost use Rattle.tracker_http.specs.plan_reports.specs.desk_tables.specs.Desk.{state_of, usability};
 ghost use Rattle.plan_basics.specs.declared.keys.OpKey.{OpKey};
 
-use clap::ArgMatches;
 use command_answers::{
-    Ending, Fault, NoDesk, moment_of, plan_of_file, request_of, tell, tell_no_desk, text_of,
-    text_of_file,
+    Ending, Fault, NoDesk, request_of, tell, tell_no_desk, text_of, text_of_file,
 };
-use command_words::value_of;
 use plan_basics::{Watched, minute_text};
-use plan_drafts::PlanDraft;
-use plan_records::{Reply, Request, What};
-use plan_reports::Desk;
-use sqlite::{Alter, Connection, MemStore};
+use plan_records::{PlanDraft, Reply, Request, What};
+use sqlite::{Alter, Connection, FileStore, Files, Options};
+use sqlite_disk::Memory;
 use std::alloc::Global;
 use std::io::Write;
 use std::rt::HostRuntime;
+use tracker_http::Desk;
 
 // Whether a line has nothing but what JSON passes over.
 fn is_blank(line: &[u8]) -> bool
@@ -39,8 +36,8 @@ fn is_blank(line: &[u8]) -> bool
         .all(|byte| *byte == b' ' || *byte == b'\t' || *byte == b'\r')
 }
 
-// The first line of a text that isn't empty, without its end, and what comes after it.
-fn first_line(text: &[u8]) -> Option<(&[u8], &[u8])>
+/// The first line of a text that isn't empty, without its end, and what comes after it.
+pub fn first_line(text: &[u8]) -> Option<(&[u8], &[u8])>
     ensures first { IfSome result (λ cut. IsFirstLine text.now cut.0.now cut.1.now) }
     ensures empty { IfNone result (text.now ≡ []) }
 {
@@ -65,9 +62,9 @@ fn tell_head<W: Write>(out: &mut Watched<W>, number: usize, at: i64) -> Result<(
     Ok(())
 }
 
-// Shows the number of a line that is no request.
+/// Shows the number of a line that ends the run.
 #[tactic(auto, using(command_answers::proofs::Statuses::of_the_surroundings))]
-fn tell_number<W: Write>(out: &mut Watched<W>, number: usize) -> Result<(), Fault>
+pub fn tell_number<W: Write>(out: &mut Watched<W>, number: usize) -> Result<(), Fault>
     ensures shown { OnOk result (Appends (W.contents (inner_of out.old)) (W.contents (inner_of out.new)) (number_line number)) }
     ensures fault { IfErr result IsOfSurroundings }
 {
@@ -240,17 +237,21 @@ fn loaded_over<S: Alter + Drop>(
     }
 }
 
-/// A desk in memory at which a plan was loaded; or why there is none, as the refusal of the load.
+/// A desk over files in memory at which a plan was loaded; or why there is none, as the refusal of the load.
 pub fn loaded_desk(
     alloc: Global,
     at: i64,
     draft: Option<PlanDraft>,
-) -> Result<Desk<MemStore>, NoDesk>
+) -> Result<Desk<FileStore<Memory>>, NoDesk>
     ensures loaded { IfOk result (λ desk. (named : List OpKey) × IsLoaded at draft (accepted named) (state_of desk)) }
     ensures usable { IfOk result (λ desk. desk.is_usable ≡ true) }
     ensures refused { IfErr result (IsWhyNoDesk (IsLoadRefusal at draft)) }
 {
-    match Connection::open_in_memory(alloc) {
+    let files = Files {
+        log: Memory::new(alloc),
+        db: Memory::new(alloc),
+    };
+    match Connection::open_files(alloc, files, Options::new(0)) {
         Ok(conn) => loaded_over(alloc, conn, at, draft),
         Err(_) => Err(NoDesk::Faulty(Fault::Memory)),
     }
@@ -287,8 +288,8 @@ fn play_plan<W: Write>(
     }
 }
 
-// Makes the requests of a file, or of standard input.
-fn play_file<W: Write>(
+/// Makes the requests of a file, or of standard input.
+pub fn play_file<W: Write>(
     rt: &HostRuntime,
     path: &str,
     at: i64,
@@ -297,20 +298,6 @@ fn play_file<W: Write>(
 ) -> Result<Ending, Fault> {
     match requests_of(rt, path) {
         Ok(requests) => play_plan(rt.alloc(), at, draft, requests.as_slice(), out),
-        Err(fault) => Err(fault),
-    }
-}
-
-/// `play`: the plan of a file is loaded into a desk in memory, and the requests of a text are made there, one after
-/// another. The moment is judged before the files, and both are read before anything is made.
-pub fn play<W: Write>(
-    rt: &HostRuntime,
-    given: &ArgMatches,
-    out: &mut Watched<W>,
-) -> Result<Ending, Fault> {
-    let at = moment_of(given)?;
-    match plan_of_file(rt, value_of(given, "plan")) {
-        Ok(draft) => play_file(rt, value_of(given, "requests"), at, draft, out),
         Err(fault) => Err(fault),
     }
 }

@@ -16,12 +16,12 @@ use command_answers::{
     Ending, Fault, moment_if_given, operation_of, plan_of_file, tell_no_desk, tell_refusal,
 };
 use plan_basics::{Moment, OpKey, Refusal, Watched};
-use plan_drafts::PlanDraft;
-use plan_reports::{Desk, why_report};
+use plan_records::PlanDraft;
 use sqlite::{Alter, Connection};
 use std::alloc::Global;
 use std::io::Write;
 use std::rt::HostRuntime;
+use tracker_http::{Desk, why_report};
 
 // Shows at a desk why an operation doesn't go on at a minute, or why that isn't told.
 fn tell_why<S: Alter + Drop, W: Write>(

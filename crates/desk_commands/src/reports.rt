@@ -8,19 +8,19 @@ ghost use Rattle.desk_commands.specs.Shown.{IsEndOf, IsReport, IsReportAsked, Is
 ghost use Rattle.command_answers.specs.Statuses.{IsOfSurroundings};
 ghost use Rattle.command_words.specs.Words.{text_given};
 ghost use Rattle.command_answers.specs.declared.endings.Fault.{Fault};
-ghost use Rattle.plan_reports.specs.Reports.{IsOwed, IsWritten};
-ghost use Rattle.plan_reports.specs.declared.reports.ReportFault.{ReportFault};
+ghost use Rattle.tracker_http.specs.plan_reports.specs.Reports.{IsOwed, IsWritten};
+ghost use Rattle.tracker_http.specs.plan_reports.specs.declared.reports.ReportFault.{ReportFault};
 
 use crate::databases::{Database, close_desk, stored_desk};
 use clap::ArgMatches;
 use command_answers::{Ending, Fault, Kind, kind_of, tell_no_desk, tell_refusal};
 use command_words::value_of;
 use plan_basics::Watched;
-use plan_reports::{Desk, ReportFault, error_report, late_report, occurrence_report, ready_report};
 use sqlite::{Alter, Connection};
 use std::alloc::Global;
 use std::io::Write;
 use std::rt::HostRuntime;
+use tracker_http::{Desk, ReportFault, error_report, late_report, occurrence_report, ready_report};
 
 // Writes a report of a desk.
 fn write_report<S: Alter + Drop, W: Write>(

@@ -17,11 +17,11 @@ use command_answers::{
 use command_words::value_of;
 use plan_basics::Watched;
 use plan_records::{Reply, Request, What};
-use plan_reports::{Desk, run_all};
 use sqlite::{Alter, Connection};
 use std::io::Write;
 use std::rt::HostRuntime;
 use std::slice;
+use tracker_http::{Desk, run_all};
 
 // What a desk answers to a request, which is a run by itself.
 fn reply_to<S: Alter + Drop>(desk: &mut Desk<S>, request: &Request) -> Reply

@@ -3,12 +3,13 @@ ghost use Rattle.std.specs.Prelude.{◌≡◌, ◌⊎◌, ◌≤◌, IfOk, IfErr
 ghost use Rattle.clap.specs.Values.{kind_of};
 ghost use Rattle.command_answers.specs.Statuses.{EndsExplaining, fault_status, IsOfSurroundings, IsStatusOf};
 
+use crate::running::run_desk;
 use crate::serving::serve;
 use clap::ArgMatches;
 use clap::error::{Error, ErrorKind};
 use command_answers::{Ending, Fault, validate};
 use command_words::desk_command;
-use desk_commands::{Database, DatabaseFile, check, extend, load, make, play, report, why};
+use desk_commands::{Database, DatabaseFile, check, extend, load, make, play, report, show, why};
 use plan_basics::Watched;
 use sqlite::{Alter, Connection};
 use std::alloc::Global;
@@ -54,8 +55,10 @@ where
         "extend" => extend::<S, W>(rt, given, out),
         "do" => make::<S, W>(rt, given, out),
         "report" => report::<S, W>(rt, given, out),
+        "show" => show::<S, W>(rt, given, out),
         "why" => why::<S, W>(rt, given, out),
         "serve" => serve::<S, W>(rt, given, out),
+        "desk" => run_desk::<S, W>(rt, given, out),
         "play" => play(rt, given, out),
         _ => Err(Fault::Words),
     }

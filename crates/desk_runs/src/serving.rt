@@ -1,12 +1,12 @@
 // `serve`: the desk of a database's file over HTTP, so many connections, one after another.
 ghost use Rattle.std.specs.Prelude.{None};
-ghost use Rattle.tracker_http.specs.Exchange.{Ends};
+ghost use Rattle.desk_commands.specs.tracker_http.specs.Exchange.{Ends};
 
 use super::timed::TimedStream;
 use clap::ArgMatches;
 use command_answers::{Ending, Fault, WireFault, tell_no_desk};
 use command_words::value_of;
-use desk_commands::{Database, close_desk, stored_desk};
+use desk_commands::{Database, Desk, close_desk, serve_one, stored_desk};
 use plan_basics::Watched;
 use sqlite::{Alter, Connection};
 use std::io;
@@ -14,7 +14,6 @@ use std::io::Write;
 use std::net::{Ipv4Addr, TcpListener, TcpStream};
 use std::rt::HostRuntime;
 use std::time::Instant;
-use tracker_http::{Desk, serve_one};
 
 /// Serves the one exchange of a connection, whose bytes no clause knows. A client that keeps it longer than its time is a
 /// fault of the reader or the writer.
@@ -53,7 +52,7 @@ pub fn serve_listener<S: Alter + Drop>(
 }
 
 /// The port of this machine itself that the words give, taken.
-fn taken_port(rt: &HostRuntime, given: &ArgMatches) -> Result<TcpListener, Fault> {
+pub fn taken_port(rt: &HostRuntime, given: &ArgMatches) -> Result<TcpListener, Fault> {
     let port = given.get_one::<u16>("port").ok_or(Fault::Words)?;
     TcpListener::bind(rt, (Ipv4Addr::LOCALHOST, port)).map_err(|_| Fault::Network)
 }

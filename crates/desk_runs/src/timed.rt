@@ -57,3 +57,45 @@ impl<C: Clock> Write for TimedStream<'_, C> {
         stream.flush()
     }
 }
+
+/// The stream that a reply is written to. Its time is an exchange's, and begins with the first byte of the reply, however
+/// long it took to make.
+#[derive(Drop)]
+pub struct ReplyStream<'a, C: Clock> {
+    clock: &'a C,
+    stream: &'a TcpStream,
+    begun: Option<Instant>,
+}
+
+impl<'a, C: Clock> ReplyStream<'a, C> {
+    /// The stream of a reply of which nothing is written.
+    pub fn new(clock: &'a C, stream: &'a TcpStream) -> ReplyStream<'a, C> {
+        ReplyStream {
+            clock,
+            stream,
+            begun: None,
+        }
+    }
+
+    // When the reply began: now, where it didn't so far.
+    fn beginning(&mut self) -> io::Result<Instant> {
+        if let Some(begun) = self.begun {
+            return Ok(begun);
+        }
+        let begun = Instant::now(self.clock)?;
+        self.begun = Some(begun);
+        Ok(begun)
+    }
+}
+
+impl<C: Clock> Write for ReplyStream<'_, C> {
+    fn write(&mut self, buf: &[u8]) -> io::Result<usize> {
+        let begun = self.beginning()?;
+        TimedStream::new(self.clock, self.stream, begun).write(buf)
+    }
+
+    fn flush(&mut self) -> io::Result<()> {
+        let mut stream = self.stream;
+        stream.flush()
+    }
+}

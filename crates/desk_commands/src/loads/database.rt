@@ -8,18 +8,17 @@ ghost use Rattle.plan_records.specs.Answer.{answer_of, refused};
 ghost use Rattle.plan_records.specs.Run.{empty_state};
 ghost use Rattle.desk_commands.specs.Databases.{HasNoTable, HasSchema, IsAnswerToLoad, IsDamaged, IsStateAt};
 ghost use Rattle.store_schema.specs.Schema.{desk_schema, first_schema};
-ghost use Rattle.plan_reports.specs.desk_tables.specs.Desk.{state_of, HoldsState};
-ghost use Rattle.plan_reports.specs.desk_tables.specs.Faults.{IsOpeningRefusal};
-ghost use Rattle.plan_reports.specs.desk_tables.specs.Shut.{IsOpenAfter};
+ghost use Rattle.tracker_http.specs.plan_reports.specs.desk_tables.specs.Desk.{state_of, HoldsState};
+ghost use Rattle.tracker_http.specs.plan_reports.specs.desk_tables.specs.Faults.{IsOpeningRefusal};
+ghost use Rattle.tracker_http.specs.plan_reports.specs.desk_tables.specs.Shut.{IsOpenAfter};
 ghost use Rattle.store_schema.specs.Tables.{no_schema};
 
 use plan_basics::Refusal;
-use plan_drafts::PlanDraft;
-use plan_records::{Reply, Request, What};
-use plan_reports::Desk;
+use plan_records::{PlanDraft, Reply, Request, What};
 use sqlite::{Alter, Connection};
 use sqlite_schema::schema::View;
 use std::alloc::Global;
+use tracker_http::Desk;
 
 // Whether one of these is no view, but a table that SQL doesn't reach, or what belongs to it.
 fn has_foreign(views: &[View]) -> bool

@@ -1,6 +1,6 @@
 use Rattle.std.proofs.Common.{FitsSigned, inl, to_z-of_z, w64}
 use Rattle.plan_records.specs.Answer.{accepted, refused}
-use Rattle.plan_reports.specs.desk_tables.specs.Desk.{state_of, usability}
+use Rattle.tracker_http.specs.plan_reports.specs.desk_tables.specs.Desk.{state_of, usability}
 use Rattle.desk_commands.proofs.Played.{loaded}
 use Rattle.desk_commands.proofs.playing.desk_with.Goals as goal
 

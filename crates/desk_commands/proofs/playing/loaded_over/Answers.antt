@@ -1,6 +1,6 @@
 use Rattle.std.proofs.Common.{FitsSigned, inr, to_z-of_z, w64}
 use Rattle.plan_basics.specs.declared.Refusal.{Refusal}
-use Rattle.plan_reports.specs.desk_tables.specs.Faults.{IsOpeningRefusal}
+use Rattle.tracker_http.specs.plan_reports.specs.desk_tables.specs.Faults.{IsOpeningRefusal}
 use Rattle.desk_commands.specs.Turns.{IsLoadRefusal}
 use Rattle.command_answers.proofs.Opened.{none_wider}
 use Rattle.desk_commands.proofs.playing.loaded_over.Goals as goal

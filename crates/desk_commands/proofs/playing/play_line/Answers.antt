@@ -1,5 +1,5 @@
 use Rattle.plan_basics.specs.Watched.{inner_of}
-use Rattle.plan_reports.specs.desk_tables.specs.Desk.{state_of, usability}
+use Rattle.tracker_http.specs.plan_reports.specs.desk_tables.specs.Desk.{state_of, usability}
 use Rattle.command_answers.specs.Given.{IsNoRequest}
 use Rattle.desk_commands.proofs.Played.{line_unread}
 use Rattle.desk_commands.proofs.Told.{no_request}

@@ -1,6 +1,6 @@
 use Rattle.std.proofs.Common.{◌≡◌, rules, subst, sym, Err}
 use Rattle.plan_basics.specs.Watched.{inner_of}
-use Rattle.plan_reports.specs.desk_tables.specs.Desk.{state_of, usability}
+use Rattle.tracker_http.specs.plan_reports.specs.desk_tables.specs.Desk.{state_of, usability}
 use Rattle.desk_commands.specs.Turns.{IsPlayed}
 use Rattle.desk_commands.proofs.Played.{so_far_breaks_off, so_far_ends, so_far_goes_on}
 use Rattle.desk_commands.proofs.playing.play_lines.Goals as goal

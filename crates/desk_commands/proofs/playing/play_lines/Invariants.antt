@@ -1,6 +1,6 @@
 use Rattle.std.proofs.Common.{length}
 use Rattle.plan_basics.specs.Watched.{inner_of}
-use Rattle.plan_reports.specs.desk_tables.specs.Desk.{state_of, usability}
+use Rattle.tracker_http.specs.plan_reports.specs.desk_tables.specs.Desk.{state_of, usability}
 use Rattle.desk_commands.proofs.Played.{SoFar}
 use Rattle.desk_commands.proofs.playing.play_lines.Given as goal
 

@@ -2,7 +2,7 @@ use Rattle.std.proofs.Common.{FitsSigned, List, to_z-of_z, w64}
 use Rattle.plan_basics.specs.Watched.{inner_of}
 use Rattle.plan_basics.specs.declared.keys.OpKey.{OpKey}
 use Rattle.plan_records.specs.Answer.{accepted}
-use Rattle.plan_reports.specs.desk_tables.specs.Desk.{state_of}
+use Rattle.tracker_http.specs.plan_reports.specs.desk_tables.specs.Desk.{state_of}
 use Rattle.command_answers.specs.Opened.{IsWhyNoDesk}
 use Rattle.desk_commands.specs.Turns.{IsLoadRefusal, IsLoaded}
 use Rattle.desk_commands.proofs.Played.{plan_played, plan_unplayed}

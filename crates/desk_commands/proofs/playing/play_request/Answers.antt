@@ -1,6 +1,6 @@
 use Rattle.std.proofs.Common.{FitsSigned, rules, to_z-of_z, w64}
 use Rattle.plan_basics.specs.Watched.{inner_of}
-use Rattle.plan_reports.specs.desk_tables.specs.Desk.{state_of, usability}
+use Rattle.tracker_http.specs.plan_reports.specs.desk_tables.specs.Desk.{state_of, usability}
 use Rattle.desk_commands.proofs.Played.{turn_played}
 use Rattle.desk_commands.proofs.playing.play_request.Goals as goal
 

@@ -1,8 +1,8 @@
 use Rattle.std.proofs.Common.{◌≡◌, Err, FitsSigned, pos, refl, to_z-of_z, w64}
 use Rattle.plan_basics.specs.Watched.{inner_of}
 use Rattle.plan_basics.specs.declared.Refusal.{Refusal}
-use Rattle.plan_reports.specs.Reports.{IsOwed, why_refusal_of}
-use Rattle.plan_reports.specs.declared.reports.ReportFault.TheVariants as fault
+use Rattle.tracker_http.specs.plan_reports.specs.Reports.{IsOwed, why_refusal_of}
+use Rattle.tracker_http.specs.plan_reports.specs.declared.reports.ReportFault.TheVariants as fault
 use Rattle.desk_commands.proofs.Reasoned.{why_ends}
 use Rattle.desk_commands.proofs.reasons.tell_why.Goals as goal
 

@@ -1,5 +1,5 @@
 use Rattle.plan_basics.specs.Watched.{inner_of}
-use Rattle.plan_reports.specs.desk_tables.specs.Faults.{IsOpeningRefusal}
+use Rattle.tracker_http.specs.plan_reports.specs.desk_tables.specs.Faults.{IsOpeningRefusal}
 use Rattle.command_answers.proofs.Opened.{none_faults}
 use Rattle.desk_commands.proofs.Reasoned.{why_of_desk, why_unopened}
 use Rattle.desk_commands.proofs.reasons.why_stored.Goals as goal

@@ -1,7 +1,7 @@
 use Rattle.std.proofs.Common.{◌≡◌, codes}
 use Rattle.clap.specs.Matches.{first_value, found_of}
 use Rattle.plan_basics.specs.Watched.{inner_of}
-use Rattle.plan_reports.specs.desk_tables.specs.Faults.{IsOpeningRefusal}
+use Rattle.tracker_http.specs.plan_reports.specs.desk_tables.specs.Faults.{IsOpeningRefusal}
 use Rattle.command_answers.specs.Given.{AsksNoReport}
 use Rattle.command_words.specs.Words.{text_given}
 use Rattle.command_answers.specs.declared.endings.Fault.TheVariants as fault

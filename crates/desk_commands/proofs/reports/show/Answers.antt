@@ -2,8 +2,8 @@ use Rattle.std.proofs.Common.{◌≡◌, Err, refl}
 use Rattle.std.proofs.lemmas.Result.{IfOk-weaker}
 use Rattle.plan_basics.specs.Watched.{inner_of}
 use Rattle.plan_basics.specs.declared.Refusal.{Refusal}
-use Rattle.plan_reports.specs.Reports.{IsOwed}
-use Rattle.plan_reports.specs.declared.reports.ReportFault.TheVariants as fault
+use Rattle.tracker_http.specs.plan_reports.specs.Reports.{IsOwed}
+use Rattle.tracker_http.specs.plan_reports.specs.declared.reports.ReportFault.TheVariants as fault
 use Rattle.desk_commands.specs.Shown.{IsEndOf, IsReport, IsReportShown, report_refusal_of}
 use Rattle.desk_commands.proofs.Ended.{told}
 use Rattle.desk_commands.proofs.reports.show.Goals as goal

@@ -1,5 +1,5 @@
 use Rattle.plan_basics.specs.Watched.{inner_of}
-use Rattle.plan_reports.specs.desk_tables.specs.Faults.{IsOpeningRefusal}
+use Rattle.tracker_http.specs.plan_reports.specs.desk_tables.specs.Faults.{IsOpeningRefusal}
 use Rattle.command_answers.proofs.Opened.{none_faults}
 use Rattle.desk_commands.proofs.Told.{request_refused}
 use Rattle.desk_commands.proofs.requests.make_stored.Goals as goal

@@ -2,8 +2,8 @@ use Rattle.std.proofs.Common.{◌≡◌, ◌<◌, ◌∙◌, ap, rules, subst, L
 use Rattle.std.specs.Option.{option_to_list}
 use Rattle.plan_records.specs.Answer.{answer_of}
 use Rattle.plan_records.specs.declared.Reply.{Reply}
-use Rattle.plan_reports.specs.desk_tables.specs.Desk.{state_of, usability}
-use Rattle.plan_reports.specs.desk_tables.specs.Runs.{AreAnswered}
+use Rattle.tracker_http.specs.plan_reports.specs.desk_tables.specs.Desk.{state_of, usability}
+use Rattle.tracker_http.specs.plan_reports.specs.desk_tables.specs.Runs.{AreAnswered}
 use Rattle.desk_commands.proofs.Told.{answered_alone, memory_alone, one_reply}
 use Rattle.desk_commands.proofs.requests.reply_to.Goals as goal
 

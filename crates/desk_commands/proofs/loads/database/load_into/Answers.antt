@@ -1,7 +1,7 @@
 use Rattle.std.proofs.Common.{w64, FitsSigned, arith, inl, to_z-of_z}
 use Rattle.sqlite.specs.Held.{state}
 use Rattle.plan_records.specs.Answer.{answer_of}
-use Rattle.plan_reports.specs.desk_tables.specs.Desk.{state_of}
+use Rattle.tracker_http.specs.plan_reports.specs.desk_tables.specs.Desk.{state_of}
 use Rattle.desk_commands.proofs.LoadedDatabases.{load_answered}
 use Rattle.desk_commands.proofs.loads.database.load_into.Goals as goal
 

@@ -1,0 +1,2 @@
+mod Continuing
+mod Ending

@@ -1,0 +1,23 @@
+use Rattle.std.proofs.Common.{rules}
+use Rattle.desk_runs.proofs.Continuing.{continues_none, continues_on}
+use Rattle.desk_runs.proofs.polling.serve_events.Goals as goal
+
+pub loop-event-init : goal.loop-event-init
+loop-event-init g c = record {
+  can_next = search rules;
+  is_finite = search rules;
+  continues = continues_none g.S.Store c.args.desk.now;
+  usable = λ was. was;
+}
+
+pub loop-event-preserved : goal.loop-event-preserved
+loop-event-preserved g c = record {
+  can_next = search rules;
+  is_finite = search rules;
+  continues = continues_on g.S.Store c.args.desk.now c.loop-event.desk c.serve_event.new.desk c.loop-event.invariant.continues c.in_ok-told.ensures.continues;
+  usable = λ was. c.in_ok-told.ensures.usable (c.loop-event.invariant.usable was);
+}
+
+pub returns-in_err-told-clause-continues : goal.returns-in_err-told-clause-continues
+returns-in_err-told-clause-continues g c =
+    continues_on g.S.Store c.args.desk.now c.loop-event.desk c.serve_event.new.desk c.loop-event.invariant.continues c.in_err-told.ensures.continues

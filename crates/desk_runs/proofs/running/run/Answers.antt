@@ -1,0 +1,7 @@
+use Rattle.plan_basics.specs.Watched.{inner_of}
+use Rattle.desk_runs.proofs.Ending.{refused_shown}
+use Rattle.desk_runs.proofs.running.run.Goals as goal
+
+pub returns-in-Some-Refused-clause-ending : goal.returns-in-Some-Refused-clause-ending
+returns-in-Some-Refused-clause-ending g c =
+    refused_shown c.in-Some-Refused.refusal (g.W.Write.contents (inner_of c.args.out.now)) (g.W.Write.contents (inner_of c.tell.new.out)) c.tell.result c.tell.ensures.shown

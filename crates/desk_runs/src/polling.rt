@@ -1,0 +1,196 @@
+// Connections served as they have something to read, one after another, until a fault ends it: one that sends nothing holds
+// nobody.
+ghost use Rattle.std.specs.Prelude.{◌≡◌, ◌⊎◌, true, Err, None, Some, OnOk, IfErr};
+ghost use Rattle.desk_commands.specs.tracker_http.specs.desk_journal.specs.Lines.{entries_of};
+ghost use Rattle.desk_commands.specs.tracker_http.specs.Served.{Ends, Stands};
+ghost use Rattle.command_answers.specs.declared.endings.Fault.{Fault};
+ghost use Rattle.desk_runs.specs.Connections.{Continues, GoesOn};
+
+use super::timed::{ReplyStream, TimedStream};
+use super::waiting::{LISTENER, MOST_WAITING, Waiting};
+use command_answers::Fault;
+use desk_commands::{Desk, Journal, ServeFault, serve_wanted};
+use mio::event::Event;
+use mio::unix::SourceFd;
+use mio::{Events, Interest, Poll, Token};
+use plan_basics::Watched;
+use sqlite::Alter;
+use std::io;
+use std::io::Write;
+use std::net::{TcpListener, TcpStream};
+use std::os::fd::AsRawFd;
+use std::rt::HostRuntime;
+use std::time::{Duration, Instant};
+
+/// Serves the one exchange of a connection, whose bytes no clause knows: a reply is written, the desk and the journal are as
+/// it says (`ends`), and whatever acted stands in the journal (`stands`). A client that keeps it longer than its time is a
+/// fault of the reader or the writer.
+fn serve_stream<J: Write, S: Alter + Drop>(
+    rt: &HostRuntime,
+    stream: &TcpStream,
+    journal: &mut Journal<J>,
+    desk: &mut Desk<S>,
+    ahead: u32,
+) -> Result<(), ServeFault>
+    ensures ends { Ends S.Store (Some ahead) result None desk.old desk.new (None, None) (entries_of J.contents journal.old, entries_of J.contents journal.new) }
+    ensures stands { Stands None desk.old desk.new (entries_of J.contents journal.old) (entries_of J.contents journal.new) }
+    ensures continues { Continues S.Store desk.old desk.new }
+{
+    let Ok(begun) = Instant::now(rt) else {
+        return Err(ServeFault::Reader);
+    };
+    serve_wanted(
+        rt.alloc(),
+        &mut Watched::new(TimedStream::new(rt, stream, begun)),
+        &mut Watched::new(ReplyStream::new(rt, stream)),
+        journal,
+        desk,
+        Some(ahead),
+    )
+}
+
+/// Serves a connection. One that faults concerns its client alone, who learns of it by the reply that doesn't come. `File`
+/// where the journal took no line, or the desk has to be opened again: then no other is served (`goes_on`).
+fn serve_readable<J: Write, S: Alter + Drop>(
+    rt: &HostRuntime,
+    stream: &TcpStream,
+    journal: &mut Journal<J>,
+    desk: &mut Desk<S>,
+    ahead: u32,
+) -> Result<(), Fault>
+    ensures goes_on { OnOk result (GoesOn S.Store ahead desk.old desk.new (entries_of J.contents journal.old) (entries_of J.contents journal.new)) }
+    ensures fault { IfErr result (λ fault. fault ≡ Fault.File) }
+    ensures stands { Stands None desk.old desk.new (entries_of J.contents journal.old) (entries_of J.contents journal.new) }
+    ensures continues { Continues S.Store desk.old desk.new }
+{
+    let served = serve_stream(rt, stream, journal, desk, ahead);
+    if matches!(served, Err(ServeFault::Journal)) || !desk.is_usable() {
+        return Err(Fault::File);
+    }
+    Ok(())
+}
+
+/// Serves the connection of an event, if it waits; and tells whether the event is the listener's.
+fn serve_event<J: Write, S: Alter + Drop>(
+    rt: &HostRuntime,
+    event: &Event,
+    waiting: &mut Waiting,
+    journal: &mut Journal<J>,
+    desk: &mut Desk<S>,
+    ahead: u32,
+) -> Result<bool, Fault>
+    ensures usable { OnOk result (desk.old.is_usable ≡ true → desk.new.is_usable ≡ true) }
+    ensures fault { IfErr result (λ fault. fault ≡ Fault.File) }
+    ensures continues { Continues S.Store desk.old desk.new }
+{
+    let Token(token) = event.token();
+    if token == LISTENER {
+        return Ok(true);
+    }
+    let Some(stream) = waiting.take(token) else {
+        return Ok(false);
+    };
+    serve_readable(rt, &stream, journal, desk, ahead)?;
+    Ok(false)
+}
+
+/// Serves the waiting connections that have something, by what the system told; and tells whether it told of the listener.
+fn serve_events<J: Write, S: Alter + Drop>(
+    rt: &HostRuntime,
+    events: &Events,
+    waiting: &mut Waiting,
+    journal: &mut Journal<J>,
+    desk: &mut Desk<S>,
+    ahead: u32,
+) -> Result<bool, Fault>
+    ensures usable { OnOk result (desk.old.is_usable ≡ true → desk.new.is_usable ≡ true) }
+    ensures fault { IfErr result (λ fault. fault ≡ Fault.File) }
+    ensures continues { Continues S.Store desk.old desk.new }
+{
+    let mut knocking = false;
+    for event in events.iter() {
+        let told = serve_event(rt, event, waiting, journal, desk, ahead)?;
+        knocking |= told;
+    }
+    Ok(knocking)
+}
+
+/// A listener's door: what the system tells of, who waits, and whether more may be knocking.
+#[derive(Drop)]
+struct Door {
+    poll: Poll,
+    events: Events,
+    waiting: Waiting,
+    knocking: bool,
+}
+
+/// The door of a listener, which doesn't block from here on.
+fn door_of(rt: &HostRuntime, listener: &TcpListener) -> io::Result<Door> {
+    listener.set_nonblocking(true)?;
+    let poll = Poll::new(rt)?;
+    let descriptor = listener.as_raw_fd();
+    poll.registry().register(
+        &mut SourceFd(&descriptor),
+        Token(LISTENER),
+        Interest::READABLE,
+    )?;
+    Ok(Door {
+        poll,
+        events: Events::with_capacity(rt.alloc(), MOST_WAITING + 1)?,
+        waiting: Waiting::new(rt.alloc())?,
+        knocking: false,
+    })
+}
+
+/// Waits until somebody has something, or looks who has, where more may be knocking; serves those who have; and takes in
+/// those who knock.
+fn serve_turn<J: Write, S: Alter + Drop>(
+    rt: &HostRuntime,
+    listener: &TcpListener,
+    door: &mut Door,
+    journal: &mut Journal<J>,
+    desk: &mut Desk<S>,
+    ahead: u32,
+) -> Result<(), Fault>
+    ensures usable { desk.old.is_usable ≡ true → (desk.new.is_usable ≡ true) ⊎ (result ≡ Err Fault.File) }
+    ensures fault { IfErr result (λ fault. (fault ≡ Fault.File) ⊎ (fault ≡ Fault.Network)) }
+    ensures continues { Continues S.Store desk.old desk.new }
+{
+    let limit = door.knocking.then_some(Duration::ZERO);
+    if door.poll.poll(&mut door.events, limit).is_err() {
+        return Err(Fault::Network);
+    }
+    let told = serve_events(rt, &door.events, &mut door.waiting, journal, desk, ahead)?;
+    if door.knocking || told {
+        let Ok(more) = door.waiting.take_knocking(door.poll.registry(), listener) else {
+            return Err(Fault::Network);
+        };
+        door.knocking = more;
+    }
+    Ok(())
+}
+
+/// Serves a listener's connections, each with one exchange, until a fault ends it: `File` where the journal took no line or
+/// the desk has to be opened again, `Network` where no connection can be had.
+#[tactic(auto, using(crate::proofs::Continuing::continues_on))]
+pub fn serve_polled<J: Write, S: Alter + Drop>(
+    rt: &HostRuntime,
+    listener: &TcpListener,
+    journal: &mut Journal<J>,
+    desk: &mut Desk<S>,
+    ahead: u32,
+) -> Fault
+    ensures usable { desk.old.is_usable ≡ true → (desk.new.is_usable ≡ true) ⊎ (result ≡ Fault.File) }
+    ensures fault { (result ≡ Fault.File) ⊎ (result ≡ Fault.Network) }
+    ensures continues { Continues S.Store desk.old desk.new }
+{
+    let Ok(mut door) = door_of(rt, listener) else {
+        return Fault::Network;
+    };
+    for _ in 0..u64::MAX {
+        if let Err(fault) = serve_turn(rt, listener, &mut door, journal, desk, ahead) {
+            return fault;
+        }
+    }
+    Fault::Network
+}

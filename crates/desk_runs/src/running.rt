@@ -1,0 +1,114 @@
+// `desk`: the desk of a database's file over HTTP, until it is ended.
+ghost use Rattle.std.specs.Prelude.{◌≡◌, IfOk, IsErr};
+ghost use Rattle.command_answers.specs.declared.endings.Ending.{Ending};
+ghost use Rattle.desk_runs.specs.Connections.{Continues};
+
+use super::journals::opened_journal;
+use super::polling::serve_polled;
+use super::serving::taken_port;
+use clap::ArgMatches;
+use command_answers::{Ending, Fault, moment_if_given, tell, tell_no_desk};
+use command_words::value_of;
+use desk_commands::{Database, Desk, Journal, Reply, close_desk, is_behind, stored_desk, tick};
+use plan_basics::Watched;
+use sqlite::{Alter, Connection};
+use std::io::Write;
+use std::rt::HostRuntime;
+
+/// How many minutes after the plan's clock a request's moment may be, where the words don't say.
+const MINUTES_AHEAD: u32 = 1_440;
+
+/// Tells that the port of the words is taken, and serves until a fault ends it.
+fn listen<J: Write, S: Alter + Drop, W: Write>(
+    rt: &HostRuntime,
+    given: &ArgMatches,
+    journal: &mut Journal<J>,
+    desk: &mut Desk<S>,
+    out: &mut Watched<W>,
+) -> Result<Ending, Fault>
+    ensures faulty { IsErr result }
+    ensures continues { Continues S.Store desk.old desk.new }
+{
+    let ahead = given.get_one::<u32>("ahead").unwrap_or(MINUTES_AHEAD);
+    let listener = taken_port(rt, given)?;
+    writeln!(out, "listening")?;
+    out.flush()?;
+    Err(serve_polled(rt, &listener, journal, desk, ahead))
+}
+
+/// Brings the plan to the moment that the words give, where that is later than its clock; and gives the answer to the tick,
+/// if one was asked for.
+fn brought_to<J: Write, S: Alter + Drop>(
+    rt: &HostRuntime,
+    given: &ArgMatches,
+    at: Option<i64>,
+    journal: &mut Journal<J>,
+    desk: &mut Desk<S>,
+) -> Result<Option<Reply>, Fault>
+    ensures continues { Continues S.Store desk.old desk.new }
+{
+    let Some(at) = at else {
+        return Ok(None);
+    };
+    if !is_behind(desk.plan(), at) {
+        return Ok(None);
+    }
+    let reply = tick(rt.alloc(), journal, desk, value_of(given, "at"))?;
+    Ok(Some(reply))
+}
+
+/// Opens the journal that the words name, brings the plan to the moment that they give, and serves until a fault ends it. A
+/// refusal of the tick is shown.
+fn run<S: Alter + Drop, W: Write>(
+    rt: &HostRuntime,
+    given: &ArgMatches,
+    at: Option<i64>,
+    desk: &mut Desk<S>,
+    out: &mut Watched<W>,
+) -> Result<Ending, Fault>
+    ensures ending { IfOk result (λ ending. ending ≡ Ending.Refused) }
+    ensures continues { Continues S.Store desk.old desk.new }
+{
+    let mut journal = opened_journal(rt, given.get_str("journal"))?;
+    let answer = brought_to(rt, given, at, &mut journal, desk)?;
+    match answer {
+        Some(Reply::Refused(refusal)) => tell(out, &Reply::Refused(refusal)),
+        Some(Reply::Accepted { .. }) | None => listen(rt, given, &mut journal, desk, out),
+    }
+}
+
+/// Runs a desk, and closes its database.
+fn run_and_close<S: Alter + Drop, W: Write>(
+    rt: &HostRuntime,
+    given: &ArgMatches,
+    at: Option<i64>,
+    desk: Desk<S>,
+    out: &mut Watched<W>,
+) -> Result<Ending, Fault>
+where
+    Connection<S>: Database<S>,
+    ensures { IfOk result (λ ending. ending ≡ Ending.Refused) }
+{
+    let mut desk = desk;
+    let ended = run(rt, given, at, &mut desk, out);
+    close_desk(desk)?;
+    ended
+}
+
+/// `desk`: the moment is judged before the database is opened, and that before the journal. It ends by a fault alone: then
+/// the database is closed, but where its store has failed; or by a refusal of the tick.
+pub fn run_desk<S: Alter + Drop, W: Write>(
+    rt: &HostRuntime,
+    given: &ArgMatches,
+    out: &mut Watched<W>,
+) -> Result<Ending, Fault>
+where
+    Connection<S>: Database<S>,
+    ensures { IfOk result (λ ending. ending ≡ Ending.Refused) }
+{
+    let at = moment_if_given(given)?;
+    match stored_desk::<S>(rt, value_of(given, "db")) {
+        Ok(desk) => run_and_close(rt, given, at, desk, out),
+        Err(none) => tell_no_desk(out, none),
+    }
+}
