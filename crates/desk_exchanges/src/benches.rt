@@ -1,8 +1,8 @@
 // Desks over a store, of which contracts see nothing.
 use plan_basics::Refusal;
-use plan_reports::Desk;
 use sqlite::{Connection, MemStore};
 use std::alloc::Global;
+use tracker_http::Desk;
 use wires::Unseen;
 
 /// A desk over a store.

@@ -1,6 +1,7 @@
 // Requests that fail a test of their form, and bodies that are no requests.
 use super::benches::Bench;
-use super::exchanges::{and_five, loaded, send};
+use super::exchanges::send;
+use super::plays::{Matter, at_loaded};
 use sqlite::Alter;
 use status_rules::{Mark, Status};
 use std::alloc::Global;
@@ -80,11 +81,22 @@ fn each_head<S: Alter + Drop>(
     Ok(())
 }
 
+/// Each head is rejected so.
+pub fn rejected_heads<S: Alter + Drop>(
+    alloc: Global,
+    bench: &mut Bench<S>,
+) -> Result<(), &'static str> {
+    each_head(alloc, bench, &HEADS)
+}
+
 /// Heads that fail a test of their form.
 pub fn heads_that_are_rejected(alloc: Global) -> Result<(), &'static str> {
-    let mut bench = loaded(alloc)?;
-    let came = each_head(alloc, &mut bench, &HEADS);
-    and_five(&bench, came, Some((Mark::Unmarked, Status::Arriving)))
+    at_loaded(
+        alloc,
+        Matter::RejectedHeads,
+        Mark::Unmarked,
+        Status::Arriving,
+    )
 }
 
 // A request that is rejected as bad, and no more is read.
@@ -113,8 +125,11 @@ fn bad_change<S: Alter + Drop>(alloc: Global, bench: &mut Bench<S>, row: &str) -
     bad(alloc, bench, &input)
 }
 
-// The bodies that are no reports are rejected.
-fn each_change<S: Alter + Drop>(alloc: Global, bench: &mut Bench<S>) -> Result<(), &'static str> {
+/// The bodies that are no reports are rejected.
+pub fn each_change<S: Alter + Drop>(
+    alloc: Global,
+    bench: &mut Bench<S>,
+) -> Result<(), &'static str> {
     for row in CHANGES.lines() {
         bad_change(alloc, bench, row).ok_or(row)?;
     }
@@ -123,9 +138,7 @@ fn each_change<S: Alter + Drop>(alloc: Global, bench: &mut Bench<S>) -> Result<(
 
 /// Bodies that are no reports.
 pub fn bodies_that_are_no_reports(alloc: Global) -> Result<(), &'static str> {
-    let mut bench = loaded(alloc)?;
-    let came = each_change(alloc, &mut bench);
-    and_five(&bench, came, Some((Mark::Unmarked, Status::Arriving)))
+    at_loaded(alloc, Matter::NoReports, Mark::Unmarked, Status::Arriving)
 }
 
 // Nothing is sent.
@@ -155,8 +168,8 @@ fn with_fields<S: Alter + Drop>(alloc: Global, bench: &mut Bench<S>, count: usiz
     bad(alloc, bench, &head)
 }
 
-// These are rejected.
-fn others<S: Alter + Drop>(alloc: Global, bench: &mut Bench<S>) -> Result<(), &'static str> {
+/// These are rejected.
+pub fn others<S: Alter + Drop>(alloc: Global, bench: &mut Bench<S>) -> Result<(), &'static str> {
     nothing(alloc, bench).ok_or("nothing is sent")?;
     report_of_operator(alloc, bench).ok_or("the body of a report")?;
     brackets(alloc, bench).ok_or("200 brackets")?;
@@ -166,9 +179,12 @@ fn others<S: Alter + Drop>(alloc: Global, bench: &mut Bench<S>) -> Result<(), &'
 
 /// Nothing, a body of an operator that is a tracker's, one of brackets, and heads of too many fields.
 pub fn nothing_and_too_much(alloc: Global) -> Result<(), &'static str> {
-    let mut bench = loaded(alloc)?;
-    let came = others(alloc, &mut bench);
-    and_five(&bench, came, Some((Mark::Unmarked, Status::Arriving)))
+    at_loaded(
+        alloc,
+        Matter::NothingAndTooMuch,
+        Mark::Unmarked,
+        Status::Arriving,
+    )
 }
 
 // The start at a moment before all plans, which is refused as past.
@@ -191,8 +207,8 @@ fn another_name<S: Alter + Drop>(alloc: Global, bench: &mut Bench<S>) -> Option<
     send(alloc, bench, &input, After::End, &reply)
 }
 
-// The first is refused, and the second taken.
-fn past_and_taken<S: Alter + Drop>(
+/// The first is refused, and the second taken.
+pub fn past_and_taken<S: Alter + Drop>(
     alloc: Global,
     bench: &mut Bench<S>,
 ) -> Result<(), &'static str> {
@@ -204,7 +220,5 @@ fn past_and_taken<S: Alter + Drop>(
 pub fn a_moment_before_all_plans_and_a_name_in_small_letters(
     alloc: Global,
 ) -> Result<(), &'static str> {
-    let mut bench = loaded(alloc)?;
-    let came = past_and_taken(alloc, &mut bench);
-    and_five(&bench, came, Some((Mark::Running, Status::Started)))
+    at_loaded(alloc, Matter::PastAndTaken, Mark::Running, Status::Started)
 }

@@ -8,12 +8,14 @@ mod exchanges;
 mod hostile;
 mod lists;
 mod numbers;
+mod plays;
 mod readers;
 mod reads;
 mod reported;
 mod reports;
 mod samples;
 mod scarce;
+mod served;
 mod wire_faults;
 
 pub use hostile::{
@@ -36,6 +38,10 @@ pub use reports::{
     a_report_cut_after_each_byte, a_start_is_reported_in_pieces, a_tick_of_an_operator,
 };
 pub use scarce::{reports_in_want_of_memory, why_in_want_of_memory};
+pub use served::{
+    a_journal_that_fails_at_each_call, both_lines_of_a_report, looks_at_a_loaded_plan,
+    moments_beyond_the_limit,
+};
 pub use wire_faults::{a_reader_that_fails_at_each_read, a_writer_that_fails_at_each_write};
 
 /// What a play fails for where it is no difference.

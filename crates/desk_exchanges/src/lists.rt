@@ -1,7 +1,8 @@
 // The lists that a desk tells.
 use super::FAILED;
 use super::benches::{Bench, empty};
-use super::exchanges::{and_five, loaded, send};
+use super::exchanges::{and_five, send};
+use super::plays::{Matter, at_loaded};
 use super::reported::bench_after;
 use super::samples::EMPTIED;
 use sqlite::Alter;
@@ -66,11 +67,17 @@ fn each_list<S: Alter + Drop>(
     Ok(())
 }
 
+/// Each path of a loaded plan is told so.
+pub fn loaded_lists<S: Alter + Drop>(
+    alloc: Global,
+    bench: &mut Bench<S>,
+) -> Result<(), &'static str> {
+    each_list(alloc, bench, &LISTS)
+}
+
 /// The lists of a loaded plan.
 pub fn lists_of_a_loaded_plan(alloc: Global) -> Result<(), &'static str> {
-    let mut bench = loaded(alloc)?;
-    let came = each_list(alloc, &mut bench, &LISTS);
-    and_five(&bench, came, Some((Mark::Unmarked, Status::Arriving)))
+    at_loaded(alloc, Matter::Lists, Mark::Unmarked, Status::Arriving)
 }
 
 /// No list is told before a plan is loaded.

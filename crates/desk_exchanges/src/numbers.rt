@@ -1,6 +1,7 @@
 // The numbers of trackers, over connections.
 use super::benches::Bench;
-use super::exchanges::{and_five, loaded, send};
+use super::exchanges::send;
+use super::plays::{Matter, at_loaded};
 use sqlite::Alter;
 use status_rules::{Mark, Status};
 use std::alloc::Global;
@@ -113,11 +114,17 @@ fn each_turn<S: Alter + Drop>(
     Ok(())
 }
 
+/// Each turn is answered so.
+pub fn turns_of_one_tracker<S: Alter + Drop>(
+    alloc: Global,
+    bench: &mut Bench<S>,
+) -> Result<(), &'static str> {
+    each_turn(alloc, bench, &TURNS)
+}
+
 /// Reports by the numbers of one tracker, and repetitions.
 pub fn reports_are_numbered_and_repeated(alloc: Global) -> Result<(), &'static str> {
-    let mut bench = loaded(alloc)?;
-    let came = each_turn(alloc, &mut bench, &TURNS);
-    and_five(&bench, came, Some((Mark::Done, Status::Complete)))
+    at_loaded(alloc, Matter::Numbers, Mark::Done, Status::Complete)
 }
 
 // The request of a tracker's report that operation 5 does this at 22:00.
@@ -166,8 +173,8 @@ fn refused<S: Alter + Drop>(
     send(alloc, bench, &input, After::End, &reply)
 }
 
-// 64 trackers are taken, and no other.
-fn trackers<S: Alter + Drop>(alloc: Global, bench: &mut Bench<S>) -> Result<(), &'static str> {
+/// 64 trackers are taken, and no other.
+pub fn trackers<S: Alter + Drop>(alloc: Global, bench: &mut Bench<S>) -> Result<(), &'static str> {
     firsts(alloc, bench).ok_or("a tracker's first report")?;
     let limit = "{\"name\":\"Limit\",\"refusal\":20}";
     refused(alloc, bench, 1, 29, limit).ok_or(limit)?;
@@ -177,7 +184,10 @@ fn trackers<S: Alter + Drop>(alloc: Global, bench: &mut Bench<S>) -> Result<(), 
 
 /// One tracker more than there is room for.
 pub fn no_room_for_one_more_tracker(alloc: Global) -> Result<(), &'static str> {
-    let mut bench = loaded(alloc)?;
-    let came = trackers(alloc, &mut bench);
-    and_five(&bench, came, Some((Mark::Interrupted, Status::Interrupted)))
+    at_loaded(
+        alloc,
+        Matter::Trackers,
+        Mark::Interrupted,
+        Status::Interrupted,
+    )
 }

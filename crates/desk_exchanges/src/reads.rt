@@ -1,8 +1,9 @@
 // How many reads are made until an answer stands; behind that, none is.
 use super::FAILED;
 use super::benches::Bench;
-use super::exchanges::{Exchange, and_five, loaded, make_exchange};
+use super::exchanges::{Exchange, make_exchange};
 use super::lists::OCCURRENCES;
+use super::plays::{Matter, at_loaded};
 use sqlite::Alter;
 use status_rules::{Mark, Status};
 use std::alloc::Global;
@@ -115,11 +116,22 @@ fn each_rejected<S: Alter + Drop>(
     Ok(())
 }
 
+/// Each request that fails a test is rejected so.
+pub fn failing_tests<S: Alter + Drop>(
+    alloc: Global,
+    bench: &mut Bench<S>,
+) -> Result<(), &'static str> {
+    each_rejected(alloc, bench, &FAILING)
+}
+
 /// Nothing is read behind what fails a test of a request's form.
 pub fn no_read_behind_a_test_that_fails(alloc: Global) -> Result<(), &'static str> {
-    let mut bench = loaded(alloc)?;
-    let came = each_rejected(alloc, &mut bench, &FAILING);
-    and_five(&bench, came, Some((Mark::Unmarked, Status::Arriving)))
+    at_loaded(
+        alloc,
+        Matter::FailingTests,
+        Mark::Unmarked,
+        Status::Arriving,
+    )
 }
 
 // The list of occurrences.
@@ -142,17 +154,18 @@ fn behind_a_body<S: Alter + Drop>(alloc: Global, bench: &mut Bench<S>) -> Option
     at_bar(alloc, bench, &marked, &reply)
 }
 
-// Nothing is read behind either.
-fn behind_both<S: Alter + Drop>(alloc: Global, bench: &mut Bench<S>) -> Result<(), &'static str> {
+/// Nothing is read behind either.
+pub fn behind_both<S: Alter + Drop>(
+    alloc: Global,
+    bench: &mut Bench<S>,
+) -> Result<(), &'static str> {
     behind_a_head(alloc, bench).ok_or("a read behind a head")?;
     behind_a_body(alloc, bench).ok_or("a read behind a body")
 }
 
 /// Nothing is read behind a head that takes no body, and nothing behind a body.
 pub fn no_read_behind_a_head_or_a_body(alloc: Global) -> Result<(), &'static str> {
-    let mut bench = loaded(alloc)?;
-    let came = behind_both(alloc, &mut bench);
-    and_five(&bench, came, Some((Mark::Running, Status::Started)))
+    at_loaded(alloc, Matter::HeadAndBody, Mark::Running, Status::Started)
 }
 
 // A head of so many bytes, most of them a field's.
@@ -174,8 +187,11 @@ fn long_head<S: Alter + Drop>(
     after_reads(alloc, bench, &head, 4096, 2, reply)
 }
 
-// The longest head is taken, and a longer one is none.
-fn long_heads<S: Alter + Drop>(alloc: Global, bench: &mut Bench<S>) -> Result<(), &'static str> {
+/// The longest head is taken, and a longer one is none.
+pub fn long_heads<S: Alter + Drop>(
+    alloc: Global,
+    bench: &mut Bench<S>,
+) -> Result<(), &'static str> {
     let taken = list(alloc).ok_or(FAILED)?;
     let none = fault(alloc, "400 Bad Request", "").ok_or(FAILED)?;
     long_head(alloc, bench, 8192, &taken).ok_or("a head of 8,192 bytes")?;
@@ -185,7 +201,5 @@ fn long_heads<S: Alter + Drop>(alloc: Global, bench: &mut Bench<S>) -> Result<()
 
 /// A head may have 8,192 bytes; nothing is read behind them where it has more.
 pub fn heads_as_long_as_may_be_and_longer(alloc: Global) -> Result<(), &'static str> {
-    let mut bench = loaded(alloc)?;
-    let came = long_heads(alloc, &mut bench);
-    and_five(&bench, came, Some((Mark::Unmarked, Status::Arriving)))
+    at_loaded(alloc, Matter::LongHeads, Mark::Unmarked, Status::Arriving)
 }

@@ -3,11 +3,12 @@ use super::FAILED;
 use super::benches::{Bench, empty};
 use super::samples::{OPEN_AND_OLD, SAMPLES, Sample};
 use plan_basics::{Refusal, Watched, WsName};
-use plan_reports::{ReportFault, error_report, late_report, occurrence_report, ready_report};
 use sqlite::{Alter, MemStore};
 use std::alloc::Global;
 use std::io::Write;
-use tracker_http::{Reply, read_operator};
+use tracker_http::{
+    Reply, ReportFault, error_report, late_report, occurrence_report, read_operator, ready_report,
+};
 
 // Whether what an operator asks by a body is accepted.
 fn is_accepted<S: Alter + Drop>(alloc: Global, bench: &mut Bench<S>, body: &str) -> bool {

@@ -1,7 +1,8 @@
 // A report of a tracker, in pieces and cut short; and requests of operators.
 use super::FAILED;
 use super::benches::{Bench, empty};
-use super::exchanges::{Exchange, and_five, loaded, make_exchange, send};
+use super::exchanges::{Exchange, and_five, make_exchange, send};
+use super::plays::{Matter, at_loaded};
 use sqlite::Alter;
 use status_rules::{Mark, Status};
 use std::alloc::Global;
@@ -30,11 +31,14 @@ fn in_each<S: Alter + Drop>(alloc: Global, bench: &mut Bench<S>, sizes: &[usize]
     Some(())
 }
 
+/// The start is reported in pieces of five sizes.
+pub fn in_pieces_of_each_size<S: Alter + Drop>(alloc: Global, bench: &mut Bench<S>) -> Option<()> {
+    in_each(alloc, bench, &[8192, 1, 2, 7, 64])
+}
+
 /// A start that is reported in pieces.
 pub fn a_start_is_reported_in_pieces(alloc: Global) -> Result<(), &'static str> {
-    let mut bench = loaded(alloc)?;
-    let came = in_each(alloc, &mut bench, &[8192, 1, 2, 7, 64]).ok_or("a start in pieces");
-    and_five(&bench, came, Some((Mark::Running, Status::Started)))
+    at_loaded(alloc, Matter::Pieces, Mark::Running, Status::Started)
 }
 
 // The front of a report, of which a byte is read a call, is no request. Nothing is read behind the end.
@@ -46,8 +50,8 @@ fn cut_short<S: Alter + Drop>(alloc: Global, bench: &mut Bench<S>, front: &str) 
     make_exchange(alloc, bench, &cut)
 }
 
-// The report of the start, cut after each byte but the last, is no request.
-fn each_cut_short<S: Alter + Drop>(alloc: Global, bench: &mut Bench<S>) -> Option<()> {
+/// The report of the start, cut after each byte but the last, is no request.
+pub fn each_cut_short<S: Alter + Drop>(alloc: Global, bench: &mut Bench<S>) -> Option<()> {
     let report = START.request(alloc)?;
     for end in 0..report.len() {
         cut_short(alloc, bench, report.get(..end)?)?;
@@ -57,9 +61,7 @@ fn each_cut_short<S: Alter + Drop>(alloc: Global, bench: &mut Bench<S>) -> Optio
 
 /// A report cut after each byte.
 pub fn a_report_cut_after_each_byte(alloc: Global) -> Result<(), &'static str> {
-    let mut bench = loaded(alloc)?;
-    let came = each_cut_short(alloc, &mut bench).ok_or("a report cut short");
-    and_five(&bench, came, Some((Mark::Unmarked, Status::Arriving)))
+    at_loaded(alloc, Matter::CutShort, Mark::Unmarked, Status::Arriving)
 }
 
 // A tick of an operator gets this reply.
@@ -76,8 +78,8 @@ fn refused_tick<S: Alter + Drop>(alloc: Global, bench: &mut Bench<S>) -> Option<
     tick(alloc, bench, &refused)
 }
 
-// A tick is accepted.
-fn accepted_tick<S: Alter + Drop>(alloc: Global, bench: &mut Bench<S>) -> Option<()> {
+/// A tick is accepted.
+pub fn accepted_tick<S: Alter + Drop>(alloc: Global, bench: &mut Bench<S>) -> Option<()> {
     let accepted = accepted(alloc)?;
     tick(alloc, bench, &accepted)
 }
@@ -91,9 +93,7 @@ fn a_tick_before_a_load(alloc: Global) -> Result<(), &'static str> {
 
 // A tick of an operator once a plan is loaded.
 fn a_tick_after_a_load(alloc: Global) -> Result<(), &'static str> {
-    let mut bench = loaded(alloc)?;
-    let came = accepted_tick(alloc, &mut bench).ok_or("a tick after a load");
-    and_five(&bench, came, Some((Mark::Unmarked, Status::Arriving)))
+    at_loaded(alloc, Matter::Tick, Mark::Unmarked, Status::Arriving)
 }
 
 /// A tick of an operator, before a plan is loaded and after it.

@@ -4,10 +4,10 @@ use super::benches::Bench;
 use super::reported::{bench_after, write_report};
 use super::samples::{FAILED_RUN, SAMPLES, Sample};
 use plan_basics::{Moment, OpKey, Refusal, Watched};
-use plan_reports::{ReportFault, why_report};
 use sqlite::Alter;
 use std::alloc::Global;
 use taken_memory::{MemoryOutcome, SPARES, swept};
+use tracker_http::{ReportFault, why_report};
 use wires::{NIGHT, is_written};
 
 // Why the bills don't go on after the failed run.

@@ -1,6 +1,7 @@
 // Readers and writers that fail.
 use super::benches::Bench;
-use super::exchanges::{Exchange, and_five, loaded, make_exchange};
+use super::exchanges::{Exchange, make_exchange};
+use super::plays::{Matter, at_loaded};
 use sqlite::Alter;
 use status_rules::{Mark, Status};
 use std::alloc::Global;
@@ -15,8 +16,8 @@ fn reader_fault<S: Alter + Drop>(alloc: Global, bench: &mut Bench<S>, front: &st
     make_exchange(alloc, bench, &failing)
 }
 
-// The reader's fault at each read but the last is told.
-fn reader_faults<S: Alter + Drop>(alloc: Global, bench: &mut Bench<S>) -> Option<()> {
+/// The reader's fault at each read but the last is told.
+pub fn reader_faults<S: Alter + Drop>(alloc: Global, bench: &mut Bench<S>) -> Option<()> {
     let report = START.request(alloc)?;
     for end in 0..report.len() {
         reader_fault(alloc, bench, report.get(..end)?)?;
@@ -26,9 +27,12 @@ fn reader_faults<S: Alter + Drop>(alloc: Global, bench: &mut Bench<S>) -> Option
 
 /// A reader that fails at each read.
 pub fn a_reader_that_fails_at_each_read(alloc: Global) -> Result<(), &'static str> {
-    let mut bench = loaded(alloc)?;
-    let came = reader_faults(alloc, &mut bench).ok_or("a reader's fault");
-    and_five(&bench, came, Some((Mark::Unmarked, Status::Arriving)))
+    at_loaded(
+        alloc,
+        Matter::ReaderFaults,
+        Mark::Unmarked,
+        Status::Arriving,
+    )
 }
 
 // The start, whose reply is begun where the writer fails after so many calls, and whole where only its flush does.
@@ -49,8 +53,8 @@ fn repeated<S: Alter + Drop>(alloc: Global, bench: &mut Bench<S>) -> Option<()> 
     make_exchange(alloc, bench, &Exchange::new(&input, After::End, &reply))
 }
 
-// A writer that fails at each of its calls is told; the start acts once, and is then repeated.
-fn writer_faults<S: Alter + Drop>(alloc: Global, bench: &mut Bench<S>) -> Option<()> {
+/// A writer that fails at each of its calls is told; the start acts once, and is then repeated.
+pub fn writer_faults<S: Alter + Drop>(alloc: Global, bench: &mut Bench<S>) -> Option<()> {
     for calls in 0..8 {
         writer_fault(alloc, bench, calls)?;
     }
@@ -59,7 +63,5 @@ fn writer_faults<S: Alter + Drop>(alloc: Global, bench: &mut Bench<S>) -> Option
 
 /// A writer that fails at each write.
 pub fn a_writer_that_fails_at_each_write(alloc: Global) -> Result<(), &'static str> {
-    let mut bench = loaded(alloc)?;
-    let came = writer_faults(alloc, &mut bench).ok_or("a writer's fault");
-    and_five(&bench, came, Some((Mark::Running, Status::Started)))
+    at_loaded(alloc, Matter::WriterFaults, Mark::Running, Status::Started)
 }

@@ -1,4 +1,5 @@
 // Nights at a desk over a store in memory.
+use nights::desks;
 
 #[test]
 fn a_texts_length(rt: HostRuntime) -> Result<(), &'static str> {

@@ -106,3 +106,23 @@ fn a_reader_that_fails_at_each_read(rt: HostRuntime) -> Result<(), &'static str>
 fn a_writer_that_fails_at_each_write(rt: HostRuntime) -> Result<(), &'static str> {
     desk_exchanges::a_writer_that_fails_at_each_write(rt.alloc())
 }
+
+#[test]
+fn both_lines_of_a_report(rt: HostRuntime) -> Result<(), &'static str> {
+    desk_exchanges::both_lines_of_a_report(rt.alloc())
+}
+
+#[test]
+fn a_journal_that_fails_at_each_call(rt: HostRuntime) -> Result<(), &'static str> {
+    desk_exchanges::a_journal_that_fails_at_each_call(rt.alloc())
+}
+
+#[test]
+fn moments_beyond_the_limit(rt: HostRuntime) -> Result<(), &'static str> {
+    desk_exchanges::moments_beyond_the_limit(rt.alloc())
+}
+
+#[test]
+fn looks_at_a_loaded_plan(rt: HostRuntime) -> Result<(), &'static str> {
+    desk_exchanges::looks_at_a_loaded_plan(rt.alloc())
+}

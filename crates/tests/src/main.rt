@@ -1,4 +1,5 @@
-//! All tests: a module for each library of plays, which tells what it plays. The program does nothing.
+//! All tests: a module for each library of plays, which tells what it plays; and the plays of sessions. The program does
+//! nothing.
 #![tactic(auto)]
 
 #[cfg(test)]
@@ -11,6 +12,8 @@ mod layer_plays;
 mod plan_plays;
 #[cfg(test)]
 mod session_plays;
+#[cfg(test)]
+mod sessions;
 #[cfg(test)]
 mod stopped_desks;
 #[cfg(test)]

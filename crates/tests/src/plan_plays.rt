@@ -1,63 +1,64 @@
 // Worked nights in memory: each is played by `Plan::run`, one by one by `prepare` and `apply`, and beside plans that are made
 // of its rows. What is told of operations that don't go on.
+use nights::plans;
 use std::test::Fail;
 
 #[test]
 fn nights_at_once(rt: HostRuntime) -> Result<(), Fail> {
-    Ok(night_plays::nights_at_once(rt.alloc())?)
+    Ok(plans::nights_at_once(rt.alloc())?)
 }
 
 #[test]
 fn nights_one_by_one(rt: HostRuntime) -> Result<(), Fail> {
-    Ok(night_plays::nights_one_by_one(rt.alloc())?)
+    Ok(plans::nights_one_by_one(rt.alloc())?)
 }
 
 #[test]
 fn kept_as_worked_out_afresh(rt: HostRuntime) -> Result<(), Fail> {
-    Ok(night_plays::kept_as_worked_out_afresh(rt.alloc())?)
+    Ok(plans::kept_as_worked_out_afresh(rt.alloc())?)
 }
 
 #[test]
 fn plans_as_full_as_may_be(rt: HostRuntime) -> Result<(), Fail> {
-    Ok(night_plays::plans_as_full_as_may_be(rt.alloc())?)
+    Ok(plans::plans_as_full_as_may_be(rt.alloc())?)
 }
 
 #[test]
 fn rows_that_a_request_changes(rt: HostRuntime) -> Result<(), &'static str> {
-    night_plays::rows_that_a_request_changes(rt.alloc())
+    plans::rows_that_a_request_changes(rt.alloc())
 }
 
 #[test]
 fn looks_at_a_plan_of_chains(rt: HostRuntime) -> Result<(), &'static str> {
-    night_plays::looks_at_a_plan_of_chains(rt.alloc())
+    plans::looks_at_a_plan_of_chains(rt.alloc())
 }
 
 #[test]
 fn rows_in_another_order_are_the_same_plan(rt: HostRuntime) -> Result<(), &'static str> {
-    night_plays::rows_in_another_order_are_the_same_plan(rt.alloc())
+    plans::rows_in_another_order_are_the_same_plan(rt.alloc())
 }
 
 #[test]
 fn columns_that_follow_are_not_believed(rt: HostRuntime) -> Result<(), &'static str> {
-    night_plays::columns_that_follow_are_not_believed(rt.alloc())
+    plans::columns_that_follow_are_not_believed(rt.alloc())
 }
 
 #[test]
 fn quantities_and_amounts_among_rows(rt: HostRuntime) -> Result<(), &'static str> {
-    night_plays::quantities_and_amounts_among_rows(rt.alloc())
+    plans::quantities_and_amounts_among_rows(rt.alloc())
 }
 
 #[test]
 fn reasons_and_roots(rt: HostRuntime) -> Result<(), &'static str> {
-    night_plays::reasons_and_roots(rt.alloc())
+    plans::reasons_and_roots(rt.alloc())
 }
 
 #[test]
 fn nothing_of_what_is_not_in_the_plan(rt: HostRuntime) -> Result<(), &'static str> {
-    night_plays::nothing_of_what_is_not_in_the_plan(rt.alloc())
+    plans::nothing_of_what_is_not_in_the_plan(rt.alloc())
 }
 
 #[test]
 fn row_given_twice_is_of_no_plan(rt: HostRuntime) {
-    assert!(rt; night_plays::row_given_twice_is_of_no_plan(rt.alloc()));
+    assert!(rt; plans::row_given_twice_is_of_no_plan(rt.alloc()));
 }

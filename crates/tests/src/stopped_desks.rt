@@ -2,60 +2,60 @@
 
 #[test]
 fn damaged_tables_are_not_opened(rt: HostRuntime) -> Result<(), &'static str> {
-    stop_plays::damaged_tables_are_not_opened(rt.alloc())
+    desk_failures::damaged_tables_are_not_opened(rt.alloc())
 }
 
 #[test]
 fn a_process_killed_at_each_call(rt: HostRuntime) -> Result<(), &'static str> {
-    stop_plays::a_process_killed_at_each_call(rt.alloc())
+    desk_failures::a_process_killed_at_each_call(rt.alloc())
 }
 
 #[test]
 fn the_power_cut_at_each_call(rt: HostRuntime) -> Result<(), &'static str> {
-    stop_plays::the_power_cut_at_each_call(rt.alloc())
+    desk_failures::the_power_cut_at_each_call(rt.alloc())
 }
 
 #[test]
 fn the_power_cut_after_each_step(rt: HostRuntime) -> Result<(), &'static str> {
-    stop_plays::the_power_cut_after_each_step(rt.alloc())
+    desk_failures::the_power_cut_after_each_step(rt.alloc())
 }
 
 #[test]
 fn an_opening_killed_at_each_call(rt: HostRuntime) -> Result<(), &'static str> {
-    stop_plays::an_opening_killed_at_each_call(rt.alloc())
+    desk_failures::an_opening_killed_at_each_call(rt.alloc())
 }
 
 #[test]
 fn an_opening_cut_at_each_call(rt: HostRuntime) -> Result<(), &'static str> {
-    stop_plays::an_opening_cut_at_each_call(rt.alloc())
+    desk_failures::an_opening_cut_at_each_call(rt.alloc())
 }
 
 #[test]
 fn each_kind_killed_at_each_call(rt: HostRuntime) -> Result<(), &'static str> {
-    stop_plays::each_kind_killed_at_each_call(rt.alloc())
+    desk_failures::each_kind_killed_at_each_call(rt.alloc())
 }
 
 #[test]
 fn each_kind_cut_at_each_call(rt: HostRuntime) -> Result<(), &'static str> {
-    stop_plays::each_kind_cut_at_each_call(rt.alloc())
+    desk_failures::each_kind_cut_at_each_call(rt.alloc())
 }
 
 #[test]
 fn each_kind_where_the_log_loses(rt: HostRuntime) -> Result<(), &'static str> {
-    stop_plays::each_kind_where_the_log_loses(rt.alloc())
+    desk_failures::each_kind_where_the_log_loses(rt.alloc())
 }
 
 #[test]
 fn each_kind_where_the_database_loses(rt: HostRuntime) -> Result<(), &'static str> {
-    stop_plays::each_kind_where_the_database_loses(rt.alloc())
+    desk_failures::each_kind_where_the_database_loses(rt.alloc())
 }
 
 #[test]
 fn an_opening_cut_after_each_stop_of_the_log(rt: HostRuntime) -> Result<(), &'static str> {
-    stop_plays::an_opening_cut_after_each_stop_of_the_log(rt.alloc())
+    desk_failures::an_opening_cut_after_each_stop_of_the_log(rt.alloc())
 }
 
 #[test]
 fn an_opening_cut_after_each_stop_of_the_database(rt: HostRuntime) -> Result<(), &'static str> {
-    stop_plays::an_opening_cut_after_each_stop_of_the_database(rt.alloc())
+    desk_failures::an_opening_cut_after_each_stop_of_the_database(rt.alloc())
 }

@@ -1,5 +1,5 @@
-// What texts denote and what is told of them: the plays of plays_texts.
-use plays_texts::{
+// What texts denote and what is told of them: the plays of texts.
+use plays_layers::{
     additions, faults, full, halls, lines, operators, pieces, plans, reading, replies, reports,
     resources,
 };
