@@ -1,7 +1,7 @@
-"""What an input to `serve` has to get, and whether a text is a request: docs/PROFILE.md and docs/OPERATING.md, read a
+"""What an input to `serve` or `desk` has to get, and whether a text is a request: docs/PROFILE.md and docs/OPERATING.md, read a
 second time and written in Python, apart from the desk's own code. What the plan answers to a request isn't told here.
 
-    status_of(input)            400 to 501, with the method that is allowed; or 0 and what is asked of the desk
+    status_of(input, most)      400 to 501, with the method that is allowed; or 0 and what is asked of the desk
     is_report(body)             whether bytes are a tracker's report, and whose
     is_operators_request(body)  whether bytes are an operator's request
 """
@@ -10,6 +10,7 @@ import re
 from datetime import datetime
 
 MOST_HEAD_BYTES, MOST_FIELDS, MOST_BODY_BYTES = 8192, 64, 65_536
+MOST_DESK_BODY_BYTES = 16_777_216    # at `desk`
 MOST_LEVELS = 127
 
 TOKEN = rb"[A-Za-z0-9!#$%&'*+\-.^_`|~]+"
@@ -177,7 +178,7 @@ def route_of(path):
     return ("GET", "ready") if re.fullmatch(rb"/ready/[^/]+", path, re.DOTALL) else None
 
 
-def length_told(fields):
+def length_told(fields, most):
     """The status for what the fields say of a body, or 0, and its length."""
     lengths = [value.strip(b" \t") for name, value in fields if name.lower() == b"content-length"]
     if any(name.lower() == b"transfer-encoding" for name, _ in fields):
@@ -187,10 +188,10 @@ def length_told(fields):
     if len(lengths) > 1 or not re.fullmatch(rb"[0-9]{1,9}", lengths[0]):
         return 400, 0
     length = int(lengths[0])
-    return (413, 0) if length > MOST_BODY_BYTES else (0, length)
+    return (413, 0) if length > most else (0, length)
 
 
-def status_of(sent):
+def status_of(sent, most=MOST_BODY_BYTES):
     """The status that an input gets, the method that its path takes if it is 405, and what is asked: `report`,
     `operator`, `ready` or `occurrences` with the body, where the desk is to answer and the status is 0."""
     head = HEAD.match(sent[:MOST_HEAD_BYTES])
@@ -207,7 +208,7 @@ def status_of(sent):
         return 405, method, None
     if method == "GET":
         return 0, None, (asked, None)
-    status, length = length_told(fields)
+    status, length = length_told(fields, most)
     body = sent[head.end():][:length]
     if status or len(body) < length or not {"report": is_report, "operator": is_operators_request}[asked](body):
         return status or 400, None, None

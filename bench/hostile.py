@@ -2,7 +2,7 @@
 """Throws at `plandesk serve` what no client should send and texts of additions and extensions, and texts of plans at `check`
 and of requests at `do`.
 
-    hostile.py [--rounds N] [--texts N] [--seed N] [--program PATH]
+    hostile.py [--rounds N] [--texts N] [--seed N] [--desk] [--program PATH]
 
 A round plays a night: before each of its requests come the same, cut short and mutated by bytes, some in pieces, some by
 clients that go away at once. Over all rounds each request is cut at each length. Each input has to be answered as
@@ -12,6 +12,9 @@ are sent again as they are to a desk over a copy of the tables from before. A pl
 `expected_plan.py` says that it denotes a plan, and else be refused 21; that of an addition or an extension has to be refused
 21 just where it says that it denotes none, and 20 or less where it needs more of a resource than there is; a request's text
 has to be a fault just where `expected.py` says that it is none, and to change the tables only where it is accepted.
+
+With `--desk` it is `desk` that they are thrown at: what is asked for more than a day after the plan's clock has to be
+answered 422, and nothing else; and the journal has to have just the accepted requests as accepted.
 
 Exit status: 0 all is so, 1 it isn't, 2 nothing could be tried.
 """
@@ -31,16 +34,19 @@ from collections import Counter
 from contextlib import closing
 from pathlib import Path
 
-from expected import MOST_BODY_BYTES, MOST_HEAD_BYTES, REPORTS, is_operation, is_operators_request, status_of
+from expected import (MOST_BODY_BYTES, MOST_DESK_BODY_BYTES, MOST_HEAD_BYTES, REPORTS, is_operation, is_operators_request,
+                      object_of, status_of)
 from expected_plan import denotes_addition, denotes_extension, denotes_plan, fits_quantities
 from measure import HERE, PROGRAM, Unmeasured
-from rules import REFUSALS
-from served import Cut, Served, load, received, reply_of, request_bytes, rows
+from rules import REFUSALS, minute_of
+from served import (JOURNAL, Cut, Served, add_desk_word, desk_words, journal_of, load, received, reply_of, request_bytes,
+                    rows)
 
 NIGHT = HERE.parent / "examples" / "night"
 EVENING = "2024-03-01T19:30"
 MUTANTS_EACH = 4
 EXCHANGE_SECONDS = 10
+MINUTES_AHEAD = 1440
 MOST_SHOWN = 20
 TELLING = [bytes([code]) for code in b'\0\t\n\r "#%+,-./0159:?ACINX[\\]_e{}\x7f\x80\xc3\xed\xff'] + [
     b"\r\n", b"\r\n\r\n", b"\xef\xbb\xbf", b"\\u0000", b"\\ud800", b"1e400", b"000000000", b"2072", b"null", b'""', b"%2F",
@@ -158,11 +164,11 @@ def mutant(chance, request, others):
     return mutated(chance, head_of(*request) + body, texts)
 
 
-def edges():
-    """Inputs at the limits of a head and a body."""
+def edges(most):
+    """Inputs at the limits of a head and a body, which may have so many bytes."""
     tick, line = b'{"at":"2024-03-01T19:30","do":"tick"}', b"GET /occurrences HTTP/1.1\r\n"
     for more in (-1, 0, 1):
-        padded = tick + b" " * (MOST_BODY_BYTES + more - len(tick))
+        padded = tick + b" " * (most + more - len(tick))
         yield request_bytes("POST", "/operator", padded.decode())
         yield line + b"A: " + b"x" * (MOST_HEAD_BYTES + more - len(line) - 7) + b"\r\n\r\n"
         yield line + b"A:b\r\n" * (64 + more) + b"\r\n"
@@ -170,13 +176,14 @@ def edges():
         yield head + b"x" * (MOST_HEAD_BYTES + 9 * more - len(head) - 4) + b"\r\n\r\n" + tick
     yield line + b"A: " + b"x" * (MOST_HEAD_BYTES * 8)
     yield b"\r\n" * 5000 + line + b"\r\n"
-    yield request_bytes("POST", "/report", "[" * MOST_BODY_BYTES)
+    yield request_bytes("POST", "/report", "[" * most)
 
 
-def inputs_of(turn, rounds, chance):
+def inputs_of(turn, rounds, chance, most):
     """The inputs of a round: before each request its share of the cuts, and mutants."""
-    known, limits = requests_of_a_night(), list(edges())
-    yield limits[turn % len(limits)]
+    known = requests_of_a_night()
+    count = sum(1 for _ in edges(MOST_BODY_BYTES))
+    yield next(sent for at, sent in enumerate(edges(most)) if at == turn % count)
     for request in known:
         text = head_of(*request) + request[3]
         yield from (text[:end] for end in range(turn, len(text), rounds))
@@ -187,9 +194,18 @@ def inputs_of(turn, rounds, chance):
 class Hostility:
     """What was sent so far, and what was wrong with the answers."""
 
-    def __init__(self):
+    def __init__(self, given):
         self.answers, self.ways, self.wrong = Counter(), Counter(), []
         self.peak = 0
+        self.desk = desk_words(given)
+        self.most = MOST_BODY_BYTES if self.desk is None else MOST_DESK_BODY_BYTES
+        self.clock = None    # of the plan that is served, once one is loaded
+
+    def is_too_far(self, body):
+        """Whether a request's moment is beyond the guard of a `desk`."""
+        if self.desk is None or self.clock is None:
+            return False
+        return minute_of(object_of(body)["at"]) > self.clock + MINUTES_AHEAD
 
     def judge(self, is_so, what, sent, got):
         if not is_so:
@@ -241,7 +257,7 @@ def is_answer(status, body, asked):
 
 def throw(desk, chance, sent, told):
     """Sends an input and judges what comes of it; the request, where it is accepted."""
-    status, allowed, asked = status_of(sent)
+    status, allowed, asked = status_of(sent, told.most)
     what, body = asked or (None, None)
     way, pieces = chance.random(), [sent]
     is_whole = status != 0 or body is None or sent.endswith(body)
@@ -268,8 +284,14 @@ def throw(desk, chance, sent, told):
     if status:
         told.judge(got == (status, allowed, b'{"error":%d}' % status), f"{status} is due", sent, got)
         return None
+    if body is not None and told.is_too_far(body):
+        told.judge(got == (422, None, b'{"error":422}'), "422 is due", sent, got)
+        return None
     told.judge(is_answer(got[0], got[2], what) and got[1] is None, f"an answer to {what} is due", sent, got)
-    return (f"/{what}", body, got[2]) if got[0] == 200 and body is not None else None
+    if got[0] != 200 or body is None:
+        return None
+    told.clock = minute_of(object_of(body)["at"])
+    return f"/{what}", body, got[2]
 
 
 def tables_after(desk, folder):
@@ -278,24 +300,34 @@ def tables_after(desk, folder):
     return found
 
 
+def judge_journal(folder, accepted, told):
+    """The journal has just these requests as accepted, in their order, with their answers."""
+    found = [(entry["path"], entry["body"].encode(), json.dumps(answer["reply"], separators=(",", ":")).encode())
+             for entry, answer in journal_of(folder)[0] if answer and answer["status"] == 200]
+    told.judge(found == accepted, "the journal's accepted requests", b"", [one for one in found if one not in accepted][:3])
+
+
 def play(given, folder, start, turn, told):
     """A round; and its accepted requests alone, which have to be answered alike and to leave the same tables."""
     chance = random.Random(f"{given.seed}/{turn}")
-    for name in ("", "-wal"):
-        (folder / f"night.db{name}").unlink(missing_ok=True)
+    for name in ("night.db", "night.db-wal", JOURNAL):
+        (folder / name).unlink(missing_ok=True)
     shutil.copy(folder / start, folder / "night.db")
-    desk = Served(given.program, folder)
+    told.clock = minute_of(EVENING) if start == "loaded.db" else None
+    desk = Served(given.program, folder, desk=told.desk)
     accepted = []
     try:
-        for sent in inputs_of(turn, given.rounds, chance):
+        for sent in inputs_of(turn, given.rounds, chance, told.most):
             told.ways["inputs"] += 1
             taken = throw(desk, chance, sent, told)
             accepted += [taken] if taken else []
         told.peak = max(told.peak, desk.peak_megabytes())
         left = tables_after(desk, folder)
+        if given.desk:
+            judge_journal(folder, accepted, told)
         (folder / "night.db-wal").unlink(missing_ok=True)
         shutil.copy(folder / start, folder / "night.db")
-        desk = Served(given.program, folder)
+        desk = Served(given.program, folder, desk=told.desk)
         for path, body, answer in accepted:
             again = desk.ask("POST", path, body.decode())
             told.judge(again == (200, answer), f"sent alone to {path}, it is due {answer!r} again", body, again)
@@ -324,11 +356,12 @@ def dripped(stream, text):
 
 def keep_still(given, folder, told):
     """Clients that send nothing, a part of a head, or a part of a body, and wait, or send byte after byte: each is let go
-    once its time is over, and the next is served."""
+    once its time is over, and the next is served. At `desk` who sends nothing has all the time."""
     text = request_bytes("POST", "/operator", '{"at":"2024-03-01T19:30","do":"tick"}')
-    desk = Served(given.program, folder)
+    desk = Served(given.program, folder, desk=told.desk)
+    kept = ((b"", b""), (text[:30], b""), (text[:-5], b""), (b"", text), (text[:-30], b" " * 60))
     try:
-        for sent, more in ((b"", b""), (text[:30], b""), (text[:-5], b""), (b"", text), (text[:-30], b" " * 60)):
+        for sent, more in kept[1:] if given.desk else kept:
             begun = time.monotonic()
             with desk.connect() as stream:
                 stream.sendall(sent)
@@ -416,7 +449,7 @@ def coming_in(given, folder, told, verb, texts, denotes):
     shutil.copy(folder / "loaded.db", folder / "night.db")
     (folder / "night.db-wal").unlink(missing_ok=True)
     set_quantities(folder)
-    desk = Served(given.program, folder)
+    desk = Served(given.program, folder, desk=told.desk)
     try:
         got = desk.ask("POST", "/operator", json.dumps({"at": EVENING, "do": verb, "records": ABOVE.decode()}))
         told.judge(got == (409, LIMIT), "20 is due, and nothing else is wrong", ABOVE, got)
@@ -471,7 +504,8 @@ def try_all(given, folder, told):
     shutil.copy(folder / "loaded.db", folder / "night.db")
     (folder / "night.db-wal").unlink(missing_ok=True)
     keep_still(given, folder, told)
-    serve_so_many(given, folder, told)
+    if not given.desk:
+        serve_so_many(given, folder, told)
     check_plans(given, folder, told)
     coming_in(given, folder, told, "add", ADDITIONS, denotes_addition)
     coming_in(given, folder, told, "extend", EXTENSIONS, denotes_extension)
@@ -483,10 +517,11 @@ def main():
     words.add_argument("--rounds", type=int, default=180, help="rounds, of some 600 inputs each")
     words.add_argument("--texts", type=int, default=1000, help="texts of plans, of additions, of extensions, and of requests for `do`")
     words.add_argument("--seed", type=int, default=1, help="what chance draws the inputs from")
+    add_desk_word(words)
     words.add_argument("--program", type=Path, default=PROGRAM)
     given = words.parse_args()
     given.program = given.program.resolve()
-    told = Hostility()
+    told = Hostility(given)
     try:
         if not given.program.exists():
             raise Unmeasured(f"no program {given.program}: bin/build proves and builds it")

@@ -98,6 +98,8 @@ def closed(found, more_of):
 STATUS_OF_MARK = {"named": "S", "running": "S", "interrupted": "I", "error": "E", "undecided": "U", "deleted": "D", "done": "C"}
 READY, WAITING_OR_READY, UNDER_WAY = set("AR*"), set("WAR*"), set("SIU")
 MAY_TAKE = {"A", "S"}       # attributes of the workstations where starts are known
+MARK_TOLD = {"named": " named", "running": " started"}
+MODE_TOLD = {"S": "shared", "X": "exclusive"}
 
 
 @dataclass(frozen=True)
@@ -213,7 +215,8 @@ class Plan:
                 yield number, f"{name} lacks {supply}: given out {given}, open {offered}, needed {needed}"
 
     def lacking_of_resources(self, key):
-        """Which of its special resources it can't have, and who is in the way; what it holds itself never is."""
+        """Which of its special resources it can't have, and who is in the way or holds how much; what it holds itself never
+        is. Who holds how much is told in the lines below the first."""
         needs = self.needed_by(key)
         others = {resource: [(holder, held) for holder, held in self.holders(resource) if holder != key] for resource in needs}
         for resource in needs:
@@ -222,18 +225,20 @@ class Plan:
         for resource, need in needs.items():
             for holder, held in others[resource]:
                 if not need.mode == held.mode == "S":
-                    yield 16, f"{resource} held by {key_text(holder)} {'shared' if held.mode == 'S' else 'exclusive'}"
+                    yield 16, f"{resource} held by {key_text(holder)} {MODE_TOLD[held.mode]}"
         for resource, need in needs.items():
             left = self.quantities[resource] - sum(held.amount for _, held in others[resource])
             if left < need.amount:
-                yield 16, f"{resource} lacks: left {left}, needed {need.amount}"
+                yield 16, "\n".join([f"{resource} lacks: left {left}, needed {need.amount}", *(
+                    f"  {key_text(holder)} {self.statuses[holder]} {MODE_TOLD[held.mode]} {held.amount}"
+                    for holder, held in others[resource])])
 
     def lacking(self, key, minute):
         """All that an operation lacks to go on at the minute, each with the number of its refusal, in the order in which a start
         is refused. Where nobody reports starts, and of a NOP of which nothing was reported, status and hold alone count."""
         operation, status = self.operations[key], self.statuses[key]
         if status not in WAITING_OR_READY and not (status == "I" and self.attribute(key) == "S"):
-            yield 9, f"status {status}"
+            yield 9, f"status {status}{MARK_TOLD.get(operation.mark, '')}"
         if status == "W":
             for one in self.waited_for(key):
                 yield 9, f"waits for {key_text(one)} {self.statuses[one]}"

@@ -1,7 +1,9 @@
 #!/usr/bin/env python3
 """Measures `plandesk serve` on a small plan and on a full one, beside beanstalkd, which syncs its log as often.
 
-    serve.py [--requests N] [--connections N] [--size N] [--seconds N] [--program PATH]
+    serve.py [--requests N] [--connections N] [--size N] [--seconds N] [--desk] [--program PATH]
+
+With `--desk` it measures `desk` too, without a journal and with one.
 
 README.md says what each figure is. Exit status: 0 all was answered as it has to be, 2 nothing could be measured.
 """
@@ -20,7 +22,7 @@ from pathlib import Path
 from statistics import median
 
 from measure import HERE, MOMENT, PROGRAM, Unmeasured, tell_surroundings
-from served import Served, free_port, load, report_text, request_bytes
+from served import JOURNAL, Served, free_port, load, report_text, request_bytes
 from stored import FULL
 
 ACCEPTED = (200, b'{"named":[]}')
@@ -140,9 +142,21 @@ def tell_wrk(desk, given, trackers):
     print(f"  wrk, {count} at once, GET /occurrences: {wrk(desk, '/occurrences', given, count)}", flush=True)
 
 
-def measure_desk(what, given, folder):
+def ways_of(given):
+    """The commands that are measured, and the words of each that is a `desk`."""
+    return {"serve": None, **({"desk": [], "desk with a journal": ["--journal", JOURNAL]} if given.desk else {})}
+
+
+def measure_desks(what, given, folder):
+    for way, words in ways_of(given).items():
+        for name in ("night.db", "night.db-wal", JOURNAL):
+            (folder / name).unlink(missing_ok=True)
+        measure_desk(f"{way}, {what}", given, folder, words)
+
+
+def measure_desk(what, given, folder, words):
     load(given.program, folder, "plan.csv", MOMENT)
-    desk = Served(given.program, folder)
+    desk = Served(given.program, folder, desk=words)
     several, first = given.connections, desk.peak_megabytes()
     try:
         one, *others = trackers_of(desk, folder, [f"T{turn}" for turn in range(several + 1)])
@@ -212,6 +226,7 @@ def main():
     words.add_argument("--connections", type=int, default=8, help="clients at once: 1 to 60")
     words.add_argument("--size", type=int, default=FULL, help="operations of the full plan")
     words.add_argument("--seconds", type=int, default=5, help="seconds of each run of wrk")
+    words.add_argument("--desk", action="store_true", help="measure `desk` beside `serve`, without a journal and with one")
     words.add_argument("--program", type=Path, default=PROGRAM)
     given = words.parse_args()
     given.program = given.program.resolve()
@@ -224,9 +239,9 @@ def main():
         with tempfile.TemporaryDirectory() as few, tempfile.TemporaryDirectory() as many, \
                 tempfile.TemporaryDirectory() as log:
             (Path(few) / "plan.csv").write_text(small_plan(small))
-            measure_desk(f"plan of {small} operations", given, Path(few))
+            measure_desks(f"plan of {small} operations", given, Path(few))
             subprocess.run([sys.executable, HERE / "generate.py", str(full), "plan.csv"], cwd=many, check=True)
-            measure_desk(f"plan of {full} operations", given, Path(many))
+            measure_desks(f"plan of {full} operations", given, Path(many))
             measure_beanstalkd(given, Path(log))
         return 0
     except (Unmeasured, OSError, sqlite3.Error, subprocess.CalledProcessError) as fault:

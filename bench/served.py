@@ -1,5 +1,5 @@
-"""A running `plandesk serve`, what a client sends to it and gets from it, and the tables as the C library reads them.
-A connection for each request."""
+"""A running `plandesk serve` or `desk`, what a client sends to it and gets from it, its journal, and the tables as the C
+library reads them. A connection for each request."""
 import json
 import re
 import shutil
@@ -14,7 +14,10 @@ from stored import TABLES
 MOST_CONNECTIONS = 1_000_000
 SECONDS_TO_ANSWER = 60
 PHRASES = {200: "OK", 400: "Bad Request", 404: "Not Found", 405: "Method Not Allowed", 409: "Conflict",
-           411: "Length Required", 413: "Payload Too Large", 501: "Not Implemented", 503: "Service Unavailable"}
+           411: "Length Required", 413: "Payload Too Large", 422: "Unprocessable Entity", 501: "Not Implemented",
+           503: "Service Unavailable"}
+JSON, TEXT = "application/json", "text/plain; charset=utf-8"
+JOURNAL = "night.log"
 
 
 class Cut(OSError):
@@ -49,7 +52,7 @@ def request_bytes(method, path, text=None):
     return f"{method} {path} HTTP/1.1\r\nHost: localhost\r\n{length}\r\n".encode() + body
 
 
-def reply_of(written):
+def reply_of(written, media=JSON):
     """The status, the method that is allowed, and the body of a reply, which has to be written as it is promised."""
     head, ended, body = written.partition(b"\r\n\r\n")
     status = re.match(rb"HTTP/1\.1 (\d{3}) ", head)
@@ -57,24 +60,35 @@ def reply_of(written):
     if not ended or not status:
         raise Cut(f"no whole reply: {written[:200]!r}")
     status, allowed = int(status[1]), allowed and allowed[1].decode()
-    wanted = (f"HTTP/1.1 {status} {PHRASES.get(status)}\r\nContent-Type: application/json\r\n"
+    wanted = (f"HTTP/1.1 {status} {PHRASES.get(status)}\r\nContent-Type: {media}\r\n"
               f"Content-Length: {len(body)}\r\nConnection: close" + (f"\r\nAllow: {allowed}" if allowed else ""))
     if head != wanted.encode():
         raise Cut(f"not the fields and the length that are promised, or a part of the body: {written[:300]!r}")
     return status, allowed, body
 
 
-class Served:
-    """A desk that listens. The database is opened before it does, so that the time until then counts for nothing."""
+def add_desk_word(words):
+    words.add_argument("--desk", action="store_true", help="try `desk`, with a journal, in place of `serve`")
 
-    def __init__(self, program, folder, port=None, connections=MOST_CONNECTIONS, **more):
+
+def desk_words(given):
+    """The words of `desk` where it is to be tried, and else None."""
+    return ["--journal", JOURNAL] if given.desk else None
+
+
+class Served:
+    """A desk that listens: by `serve`, or by `desk` with these words. The database is opened before it does, so that the
+    time until then counts for nothing."""
+
+    def __init__(self, program, folder, port=None, connections=MOST_CONNECTIONS, desk=None, **more):
         self.port = port or free_port()
-        words = [program, "serve", "--db", "night.db", "--port", self.port, "--requests", connections]
+        command, words = ("serve", ["--requests", connections]) if desk is None else ("desk", desk)
+        words = [program, command, "--db", "night.db", "--port", self.port, *words]
         self.process = subprocess.Popen([str(word) for word in words], cwd=folder, stdout=subprocess.PIPE,
                                         stderr=subprocess.PIPE, **more)
         told = self.process.stdout.readline()
         if told != b"listening\n":
-            raise Unmeasured(f"serve doesn't listen: {told + self.process.stderr.read()!r}, status {self.process.wait()}")
+            raise Unmeasured(f"{command} doesn't listen: {told + self.process.stderr.read()!r}, status {self.process.wait()}")
 
     def connect(self):
         stream = socket.create_connection(("127.0.0.1", self.port), timeout=SECONDS_TO_ANSWER)
@@ -95,6 +109,13 @@ class Served:
     def report(self, text):
         return self.ask("POST", "/report", text)
 
+    def look(self, path, media=TEXT):
+        """The body of what is shown under a path."""
+        status, _, body = reply_of(self.exchange(request_bytes("GET", path)), media)
+        if status != 200:
+            raise Unmeasured(f"GET {path} is answered {status}: {body!r}")
+        return body
+
     def peak_megabytes(self):
         with open(f"/proc/{self.process.pid}/status") as told:
             return next(int(line.split()[1]) / 1024 for line in told if line.startswith("VmHWM"))
@@ -112,6 +133,23 @@ def received(stream):
     while part := stream.recv(65536):
         parts.append(part)
     return b"".join(parts)
+
+
+def journal_of(folder):
+    """What a journal tells: its requests, each with its answer, or None where there is none; and whether its last line was
+    cut short."""
+    *lines, last = (folder / JOURNAL).read_bytes().split(b"\n")
+    told = []
+    for line in lines:
+        try:
+            entry = json.loads(line)
+        except ValueError:
+            continue    # cut short by a kill, and ended at the next opening
+        if "path" in entry:
+            told.append((entry, None))
+        else:
+            told[-1] = (told[-1][0], entry)
+    return told, last != b""
 
 
 def rows(folder, look=None):

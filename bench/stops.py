@@ -1,7 +1,7 @@
 #!/usr/bin/env python3
 """Kills `plandesk serve` again and again in a stream of numbered reports, and sees that each acted once, none lost.
 
-    stops.py [--reports N] [--stops N] [--trackers N] [--seed N] [--program PATH]
+    stops.py [--reports N] [--stops N] [--trackers N] [--seed N] [--desk] [--program PATH]
 
 Some trackers report in turn that an operation of theirs has started, is interrupted, has started, and so on. At so many
 of the reports the program is killed (`kill -9`), at a moment drawn by chance from what a report takes, or after one. The
@@ -9,7 +9,8 @@ C library then reads the files: each tracker's receipt has to be that of its las
 that wasn't, and its operation has to stand as that says. Then the program is started again over the same file and port,
 and one time in three it is killed again while it opens the file. Each tracker does what a tracker does that doesn't
 know: it repeats its last report, byte for byte, which has to be answered as before where it was; and the one before it
-is answered as old. At the end the tables have to be those of the same reports without a stop.
+is answered as old. At the end the tables have to be those of the same reports without a stop. With `--desk` it is `desk`
+that is killed: after each stop its journal has to have what the tables have, and what was answered.
 
 Exit status: 0 all is so, 1 it isn't, 2 nothing could be tried.
 """
@@ -26,7 +27,7 @@ from pathlib import Path
 from statistics import median
 
 from measure import MOMENT, PROGRAM, Unmeasured
-from served import Served, load, report_text, rows
+from served import Served, add_desk_word, desk_words, journal_of, load, report_text, rows
 
 OLD = (409, b'{"name":"Old","refusal":22}')
 MARKS = {1: "running", 0: "interrupted"}    # after an odd and an even number of reports
@@ -94,10 +95,24 @@ def report_and_kill(desk, text, patience):
 def kill_opening(given, folder, patience):
     """Starts the program over the file, and kills it so many seconds later, at work or listening."""
     words = [given.program, "serve", "--db", "night.db", "--port", "1", "--requests", "1"]
+    if given.desk:
+        words = [given.program, "desk", "--db", "night.db", "--port", "1", *desk_words(given)]
     opening = subprocess.Popen(words, cwd=folder, stdout=subprocess.DEVNULL, stderr=subprocess.DEVNULL)
     time.sleep(patience)
     opening.kill()
     return opening.wait() == -9
+
+
+def judge_journal(folder, trackers, tables):
+    """The journal has each report that the tables have, and the answer of each that was answered."""
+    told, _ = journal_of(folder)
+    asked = {entry["body"] for entry, _ in told}
+    answered = {entry["body"] for entry, answer in told if answer and answer["status"] == 200}
+    kept = {bytes(row[2]).decode() for row in tables["receipt"]}
+    taken = {text for one in trackers for text, answer in zip(one.texts, one.answers) if answer}
+    if not kept <= asked or not taken <= answered:
+        raise Lost(f"the journal lacks {sorted(kept - asked)[:3]} of the tables, {sorted(taken - answered)[:3]} of what was "
+                   "answered")
 
 
 def recover(desk, trackers):
@@ -116,7 +131,7 @@ def play(given, folder, stops):
     (folder / "plan.csv").write_text(plan_text(given.trackers))
     load(given.program, folder, "plan.csv", MOMENT)
     begun = time.perf_counter()
-    desk = Served(given.program, folder)
+    desk = Served(given.program, folder, desk=desk_words(given))
     opening = time.perf_counter() - begun
     trackers = [Tracker(turn) for turn in range(given.trackers)]
     chance, taken, fell = random.Random(given.seed), [0.002], Counter()
@@ -130,12 +145,14 @@ def play(given, folder, stops):
                     tracker.take(answer)
                 tables = rows(folder)
                 acted = [one.has_acted(tables) for one in trackers][turn % len(trackers)]
+                if given.desk:
+                    judge_journal(folder, trackers, tables)
                 fell["after the answer" if answer else "before the answer" if acted else "before the commit"] += 1
                 if chance.random() < 1 / 3:
                     fell["in an opening"] += kill_opening(given, folder, chance.uniform(0, opening))
                     if rows(folder) != tables:
                         raise Lost("the tables aren't what they were before an opening that was stopped")
-                desk = Served(given.program, folder, desk.port)
+                desk = Served(given.program, folder, desk.port, desk=desk_words(given))
                 recover(desk, trackers)
             else:
                 begun = time.perf_counter()
@@ -152,6 +169,7 @@ def main():
     words.add_argument("--stops", type=int, default=200, help="at how many of them the program is killed")
     words.add_argument("--trackers", type=int, default=8, help="trackers, which report in turn: 1 to 64")
     words.add_argument("--seed", type=int, default=1, help="what chance draws the moments of the stops from")
+    add_desk_word(words)
     words.add_argument("--program", type=Path, default=PROGRAM)
     given = words.parse_args()
     given.program = given.program.resolve()

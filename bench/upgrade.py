@@ -8,7 +8,7 @@ The database has a night in which bills have come in: written by the C library o
 crates/wires/src/first.rt, or with --released by a program of a release before 0.15. `report` has to leave its nine tables
 but for the version, and two empty ones beside them; the night has to go on; and a copy that was opened is killed at
 --stops moments, after which the tables have to be those of before or those of after. What doesn't fit is refused 28 and
-stays. With --pack the database is printed as crates/sessions/src/first_file.rt has it, and nothing is tried.
+stays. With --pack the database is printed as crates/tests/src/sessions/first_file.rt has it, and nothing is tried.
 
 Exit status: 0 all is so, 1 it isn't, 2 nothing could be tried.
 """

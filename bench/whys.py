@@ -18,7 +18,7 @@ from collections import Counter
 from contextlib import closing
 from pathlib import Path
 
-from expected_plan import MOST_QUANTITY, denotes_plan
+from expected_plan import MOST_QUANTITY, denotes_plan, records_of
 from hostile import rewritten
 from measure import HERE, PROGRAM, Unmeasured
 from night import answer_text, why_text
@@ -211,6 +211,25 @@ def play_night(trial, seed, requests):
     look_at(trial, made)
 
 
+def warnings_of(text):
+    """What the records of a plan's text are warned of, in their order: docs/PROMISES.md, of `warnings_of_text`."""
+    records = [[field.decode() for field in fields] for fields in records_of(text)]
+    starts_known = {fields[1]: fields[2] in "AS" for fields in records if fields[0] == "W"}
+    deadlines = {tuple(fields[1:3]): fields[4] for fields in records if fields[0] == "O"}
+    offered = {name: [[int(it) for it in fields[4:7]] for fields in records if fields[:2] == ["I", name]] for name in starts_known}
+    for fields in records:
+        if fields[0] == "W" and starts_known[fields[1]] and not offered[fields[1]]:
+            yield "workstation: has no open interval: nothing starts on it"
+        if fields[0] != "P":
+            continue
+        needed, intervals = [1, int(fields[6]), int(fields[7])], offered[fields[4]]
+        if starts_known[fields[4]] and intervals and not any(all(map(int.__le__, needed, it)) for it in intervals):
+            yield "operation: needs more than each open interval of its workstation has of servers, R1 or R2: it never starts"
+        begin = max(minute_of(it) for it in (fields[2], fields[8]) if it)
+        if minute_of(fields[9] or deadlines[tuple(fields[1:3])]) < begin + int(fields[5]):
+            yield "operation: its deadline is too early: from its not-before or its input arrival on, its duration goes past it"
+
+
 def judge_texts(trial, seed, texts):
     """Whether a text has faults exactly where it denotes no plan, each told with a line that it has."""
     chance = random.Random(seed)
@@ -219,8 +238,13 @@ def judge_texts(trial, seed, texts):
         text = rewritten(chance, night) if turn % 2 else rewritten(chance, plan_of(chance).encode())
         (trial.folder / "text.csv").write_bytes(text)
         status, told, fault = trial.run("validate", "--plan", "text.csv")
-        lines = told.decode("utf-8", "replace").splitlines()
+        told_lines = told.decode("utf-8", "replace").splitlines()
+        lines = [line for line in told_lines if not line.startswith("warning: ")]
         is_plan = denotes_plan(text)
+        warned = [re.sub(r"^warning: line \d+: ", "", line) for line in told_lines if line.startswith("warning: ")]
+        expected = list(warnings_of(text)) if is_plan else warned
+        more = [f"warning: {len(expected) - 100} more"] if is_plan and len(expected) > 100 else []
+        trial.judge(warned == (expected[:100] + more if is_plan else warned), "warnings", expected, told, text)
         trial.judge(not fault and (status, lines) == (0, ["no faults"]) if is_plan else status == 1 and len(lines) > 1,
                     "validate", is_plan, status, told, fault, text)
         count = re.fullmatch(r"(\d+) faults", lines[-1]) if lines and not is_plan else None
