@@ -1,0 +1,9 @@
+pub mod Looking
+pub mod Told
+pub mod InOrder
+pub mod Numbered
+pub mod Kept
+pub mod SaidPairs
+pub mod ToldPaths
+pub mod Excess
+pub mod StayingKeys
