@@ -1,7 +1,8 @@
 // The text of each show of a plan, or why there is none.
-ghost use Rattle.std.specs.Prelude.{◌≡◌, IfErr, IfOk, None};
+ghost use Rattle.std.specs.Prelude.{◌≡◌, ◌∷◌, IfErr, IfOk, None, map};
 ghost use Rattle.plan_basics.specs.declared.Refusal.{Refusal};
-ghost use Rattle.plan_shows.specs.Shows.{IsOwed, IsShow, show_refusal_of};
+ghost use Rattle.plan_shows.specs.Lines.{report};
+ghost use Rattle.plan_shows.specs.Shows.{IsOwed, IsShow, at_moment, show_refusal_of};
 ghost use Rattle.plan_shows.specs.declared.shows.Show.{Show as ShowValue};
 
 use super::columns::moment_text;
@@ -9,12 +10,12 @@ use super::lines::Field;
 use super::resources::{ResourceRow, resource_rows, resource_views};
 use super::rows::{OperationRows, ResourceRows, StartedRows, TrackerRows, WorkstationRows};
 use super::stations::{WorkstationView, workstation_views};
-use super::texts::report;
+use super::texts::{Layout, report};
 use super::trackers::{TrackerView, tracker_views};
 use super::views::{operation_views, started_views};
 use plan_basics::{OccKey, Refusal};
 use plan_reasons::{OpView, Plan};
-use std::alloc::Global;
+use std::alloc::{AllocError, Global};
 use tracker_receipts::Receipts;
 
 /// What is shown.
@@ -32,19 +33,27 @@ pub enum Show {
     Trackers,
 }
 
+// The report of these rows at the plan's clock, under a first line that begins with this word.
+fn report_at<L: Layout<R>, R>(
+    alloc: Global,
+    plan: &Plan,
+    word: &[u8],
+    rows: &[R],
+) -> Result<Vec<u8>, AllocError>
+    ensures { IfOk result (λ text. text.items ≡ report (word.now ∷ at_moment plan.now.plan.clock) (map L.columns rows.now)) }
+{
+    let at = moment_text(plan.clock());
+    let head = [Field::Word(word), Field::Word(b"AT"), Field::Word(&at)];
+    report::<L, R>(alloc, &head, rows)
+}
+
 // The operations that are started.
 fn started_shown(alloc: Global, plan: &Plan, receipts: &Receipts) -> Result<Vec<u8>, Refusal>
     ensures text { IfOk result (λ text. IsShow ShowValue.Started plan.now.plan receipts.now text.items) }
     ensures refused { IfErr result (λ r. r ≡ Refusal.Memory) }
 {
     let views = started_views(alloc, plan)?;
-    let at = moment_text(plan.clock());
-    let head = [
-        Field::Word(b"STARTED"),
-        Field::Word(b"AT"),
-        Field::Word(&at),
-    ];
-    Ok(report::<StartedRows, OpView>(alloc, &head, &views)?)
+    Ok(report_at::<StartedRows, OpView>(alloc, plan, b"STARTED", &views)?)
 }
 
 // The operations of an occurrence.
@@ -76,13 +85,7 @@ fn resources_shown(alloc: Global, plan: &Plan, receipts: &Receipts) -> Result<Ve
 {
     let views = resource_views(alloc, plan)?;
     let rows = resource_rows(alloc, &views)?;
-    let at = moment_text(plan.clock());
-    let head = [
-        Field::Word(b"RESOURCES"),
-        Field::Word(b"AT"),
-        Field::Word(&at),
-    ];
-    Ok(report::<ResourceRows, ResourceRow>(alloc, &head, &rows)?)
+    Ok(report_at::<ResourceRows, ResourceRow>(alloc, plan, b"RESOURCES", &rows)?)
 }
 
 // The workstations.
@@ -91,13 +94,7 @@ fn workstations_shown(alloc: Global, plan: &Plan, receipts: &Receipts) -> Result
     ensures refused { IfErr result (λ r. r ≡ Refusal.Memory) }
 {
     let views = workstation_views(alloc, plan)?;
-    let at = moment_text(plan.clock());
-    let head = [
-        Field::Word(b"WORKSTATIONS"),
-        Field::Word(b"AT"),
-        Field::Word(&at),
-    ];
-    Ok(report::<WorkstationRows, WorkstationView>(alloc, &head, &views)?)
+    Ok(report_at::<WorkstationRows, WorkstationView>(alloc, plan, b"WORKSTATIONS", &views)?)
 }
 
 // The trackers.
@@ -106,13 +103,7 @@ fn trackers_shown(alloc: Global, plan: &Plan, receipts: &Receipts) -> Result<Vec
     ensures refused { IfErr result (λ r. r ≡ Refusal.Memory) }
 {
     let views = tracker_views(alloc, receipts)?;
-    let at = moment_text(plan.clock());
-    let head = [
-        Field::Word(b"TRACKERS"),
-        Field::Word(b"AT"),
-        Field::Word(&at),
-    ];
-    Ok(report::<TrackerRows, TrackerView>(alloc, &head, &views)?)
+    Ok(report_at::<TrackerRows, TrackerView>(alloc, plan, b"TRACKERS", &views)?)
 }
 
 /// A show of a plan and of trackers' receipts. Refused as `NotLoaded` before a plan is loaded, else as
