@@ -1,4 +1,5 @@
 mod Appended
+mod JudgedBeside
 mod Judging
 mod Minutes
 pub mod Opened

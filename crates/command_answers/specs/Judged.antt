@@ -1,10 +1,8 @@
--- What the program shows of the faults of a text: of a plan's, of an extension's, or of a request's.
+-- What the program shows of the faults of a text: of a plan's, of an extension's without a plan, or of a request's.
 use Rattle.std.specs.Prelude.{◌≡◌, ◌≢◌, ◌↔◌, ◌==◌, if◌then◌else◌, ℕ, List, ◌++◌, Option, Some, None, codes, decimal}
 use Rattle.std.specs.Io.KnownBytes.{Appends}
 use Rattle.request_json.specs.RequestFaults.{ReadsAsSomeRequest}
 use Rattle.text_faults.specs.TextFaults.{TextDenotesSome}
-use Rattle.text_faults.specs.AddedTexts.{TextDenotesSomeAdded}
-use Rattle.text_faults.specs.declared.additions.faults.AddedText.TheVariants as text
 use Rattle.command_answers.specs.Answers.{line}
 use Rattle.command_answers.specs.declared.endings.Ending.{Ending}
 use Rattle.command_answers.specs.declared.endings.Ending.TheVariants as ending
@@ -30,8 +28,7 @@ IsJudged Denotes old new e =
 abbrev pub IsRequestJudged : List ℕ → Option (List ℕ) → Option (List ℕ) → Ending → Type 0
 IsRequestJudged word old new e = (bytes : List ℕ) × (word ≢ codes "-" → bytes ≡ word) × IsJudged (ReadsAsSomeRequest bytes) old new e
 
--- some text was judged: as a request's where the words give one, as an extension's where they give a file of one, else as a plan's
-abbrev pub IsValidated : Option (List ℕ) → Option (List ℕ) → Option (List ℕ) → Option (List ℕ) → Ending → Type 0
-IsValidated (Some request) extension old new e = IsRequestJudged request old new e
-IsValidated None (Some extension) old new e = (bytes : List ℕ) × IsJudged (TextDenotesSomeAdded text.Extension bytes) old new e
-IsValidated None None old new e = (bytes : List ℕ) × IsJudged (TextDenotesSome bytes) old new e
+-- some text was judged: as a request's where the words give one, else as a plan's
+abbrev pub IsValidated : Option (List ℕ) → Option (List ℕ) → Option (List ℕ) → Ending → Type 0
+IsValidated (Some request) old new e = IsRequestJudged request old new e
+IsValidated None old new e = (bytes : List ℕ) × IsJudged (TextDenotesSome bytes) old new e

@@ -25,16 +25,16 @@ use text_faults::{
 };
 
 /// How many faults are told one by one, and how many warnings.
-const MOST_TOLD: usize = 100;
+pub(crate) const MOST_TOLD: usize = 100;
 
 // Adds a line.
-fn push_line(lines: &mut String, line: &str) -> Result<(), AllocError> {
+pub(crate) fn push_line(lines: &mut String, line: &str) -> Result<(), AllocError> {
     lines.push_str(line)?;
     lines.push_str("\n")
 }
 
 // Adds how many more faults there are than are told, if there are.
-fn push_more(alloc: Global, lines: &mut String, count: usize) -> Result<(), AllocError> {
+pub(crate) fn push_more(alloc: Global, lines: &mut String, count: usize) -> Result<(), AllocError> {
     let more = count.saturating_sub(MOST_TOLD);
     if more == 0 {
         return Ok(());
@@ -43,7 +43,7 @@ fn push_more(alloc: Global, lines: &mut String, count: usize) -> Result<(), Allo
 }
 
 // A line for each of the first faults of a plan's text, and how many more there are, if there are.
-fn lines_of_plan(alloc: Global, found: &TextFaults) -> Result<String, AllocError> {
+pub(crate) fn lines_of_plan(alloc: Global, found: &TextFaults) -> Result<String, AllocError> {
     let mut lines = String::new(alloc);
     for fault in found.faults.iter().take(MOST_TOLD) {
         push_line(&mut lines, &fault_text(alloc, fault, found)?)?;
@@ -53,7 +53,10 @@ fn lines_of_plan(alloc: Global, found: &TextFaults) -> Result<String, AllocError
 }
 
 // The same of an extension's text.
-fn lines_of_extension(alloc: Global, found: &AddedTextFaults) -> Result<String, AllocError> {
+pub(crate) fn lines_of_extension(
+    alloc: Global,
+    found: &AddedTextFaults,
+) -> Result<String, AllocError> {
     let mut lines = String::new(alloc);
     for fault in found.faults.iter().take(MOST_TOLD) {
         push_line(&mut lines, &added_fault_text(alloc, fault, found)?)?;
@@ -121,7 +124,11 @@ fn tell_lines<W: Write>(lines: &str, out: &mut Watched<W>) -> Result<(), Fault>
 }
 
 // Shows the lines of faults, and how many there are.
-fn tell_found<W: Write>(lines: &str, count: usize, out: &mut Watched<W>) -> Result<Ending, Fault>
+pub(crate) fn tell_found<W: Write>(
+    lines: &str,
+    count: usize,
+    out: &mut Watched<W>,
+) -> Result<Ending, Fault>
     ensures shown { IfOk result (AreFaultsShown count (W.contents (inner_of out.old)) (W.contents (inner_of out.new))) }
     ensures fault { IfErr result IsOfSurroundings }
 {
@@ -144,8 +151,8 @@ fn validate_plan<W: Write>(
     tell_found(&lines, found.faults.len(), out)
 }
 
-// Shows what is wrong with the text of an extension's file.
-fn validate_extension<W: Write>(
+/// Shows what is wrong with the text of an extension's file, without a plan.
+pub fn validate_extension<W: Write>(
     rt: &HostRuntime,
     path: &str,
     out: &mut Watched<W>,
@@ -198,20 +205,18 @@ fn validate_request<W: Write>(
     }
 }
 
-/// `validate`: the text of a plan, or of an extension where the words name a file of one, is judged record by record: a line
-/// for each of the first hundred faults, how many more there are, so the warnings of a plan, and the number of all faults.
-/// Where the words give a request, its text is judged member by member.
-pub fn validate<W: Write>(
+/// The text of a plan is judged record by record: a line for each of the first hundred faults, how many more there are, so
+/// the warnings, and the number of all faults. Where the words give a request, its text is judged member by member.
+pub fn validate_text<W: Write>(
     rt: &HostRuntime,
     given: &ArgMatches,
     out: &mut Watched<W>,
 ) -> Result<Ending, Fault>
-    ensures shown { IfOk result (IsValidated (first_value (found_of given.now) (codes "request")) (first_value (found_of given.now) (codes "extension")) (W.contents (inner_of out.old)) (W.contents (inner_of out.new))) }
+    ensures shown { IfOk result (IsValidated (first_value (found_of given.now) (codes "request")) (W.contents (inner_of out.old)) (W.contents (inner_of out.new))) }
     ensures fault { IfErr result IsOfSurroundings }
 {
-    match (given.get_str("request"), given.get_str("extension")) {
-        (Some(word), _) => validate_request(rt, word, out),
-        (None, Some(path)) => validate_extension(rt, path, out),
-        (None, None) => validate_plan(rt, value_of(given, "plan"), out),
+    match given.get_str("request") {
+        Some(word) => validate_request(rt, word, out),
+        None => validate_plan(rt, value_of(given, "plan"), out),
     }
 }

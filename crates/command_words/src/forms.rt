@@ -18,10 +18,14 @@ pub enum Need {
     Never,
     /// Just where none of these others is given.
     InPlaceOf(&'static [&'static str]),
-    /// It may be given where this other one isn't.
-    NotWith(&'static str),
+    /// Where none of these others is given; beside them it may be.
+    Unless(&'static [&'static str]),
+    /// It may be given where none of these others is.
+    NotWith(&'static [&'static str]),
     /// It may be given, and this other one then has to be.
     Together(&'static str),
+    /// So, and none of these may then be.
+    Beside(&'static str, &'static [&'static str]),
 }
 
 /// A long option with one value.
@@ -86,23 +90,37 @@ pub const COMMANDS: [CommandForm; 11] = [
             OptionForm {
                 name: "plan",
                 value_name: "FILE",
-                help: "The plan, as records of ten fields",
+                help: "The plan, as records of ten fields; with --extension that which it is to extend, loaded at the moment of --at",
                 value: ValueForm::Text,
-                need: Need::InPlaceOf(&["extension", "request"]),
+                need: Need::Unless(&["extension", "request"]),
             },
             OptionForm {
                 name: "extension",
                 value_name: "FILE",
-                help: "In place of --plan: an extension, judged as far as it can be without the plan",
+                help: "An extension: judged beside the plan of --db, or of --plan, or as far as it can be without one",
                 value: ValueForm::Text,
-                need: Need::NotWith("request"),
+                need: Need::Never,
             },
             OptionForm {
                 name: "request",
                 value_name: "TEXT",
                 help: "In place of --plan: a request, as `do` takes it; - is standard input",
                 value: ValueForm::Text,
-                need: Need::Never,
+                need: Need::NotWith(&["plan", "extension"]),
+            },
+            OptionForm {
+                name: "db",
+                value_name: "FILE",
+                help: "With --extension: the database of the desk whose plan it is to extend",
+                value: ValueForm::Text,
+                need: Need::Beside("extension", &["plan", "at"]),
+            },
+            OptionForm {
+                name: "at",
+                value_name: "MOMENT",
+                help: "With --extension and --plan: the moment, as 2024-03-01T22:00",
+                value: ValueForm::Text,
+                need: Need::Beside("extension", &["request"]),
             },
         ],
     },

@@ -8,7 +8,7 @@ use clap::{Arg, ArgAction, ArgMatches, Command};
 use std::alloc::{AllocError, Global};
 
 /// The version of the newest entry of CHANGELOG.md.
-const VERSION: &str = "0.18.0";
+const VERSION: &str = "0.19.0";
 
 /// The kinds of a report.
 const KINDS: [&str; 4] = ["ready", "occurrences", "errors", "late"];
@@ -52,14 +52,21 @@ fn in_place_of<'a>(option: Arg<'a>, others: &[&'a str]) -> Result<Arg<'a>, Alloc
         .conflicts_with_all(others)
 }
 
+/// An option with which this other one is given, and none of these.
+fn beside<'a>(option: Arg<'a>, other: &'a str, apart: &[&'a str]) -> Result<Arg<'a>, AllocError> {
+    option.requires_arg(other)?.conflicts_with_all(apart)
+}
+
 /// An option that is given when it has to be.
 fn needed<'a>(option: Arg<'a>, need: Need) -> Result<Arg<'a>, AllocError> {
     match need {
         Need::Always => Ok(option.required(true)),
         Need::Never => Ok(option),
         Need::InPlaceOf(others) => in_place_of(option, others),
-        Need::NotWith(other) => option.conflicts_with(other),
+        Need::Unless(others) => option.required_unless_present_any(others),
+        Need::NotWith(others) => option.conflicts_with_all(others),
         Need::Together(other) => option.requires_arg(other),
+        Need::Beside(other, apart) => beside(option, other, apart),
     }
 }
 

@@ -1,7 +1,9 @@
+mod Besides
 mod Ended
 mod Loaded
 mod Played
 mod Reasoned
 mod Replayed
 mod Told
+mod Unloaded
 pub mod LoadedDatabases

@@ -22,7 +22,7 @@ use Rattle.command_answers.specs.declared.endings.Ending.TheVariants as ending
 use Rattle.command_answers.specs.declared.endings.Fault.{Fault}
 use Rattle.command_answers.specs.declared.endings.Fault.TheVariants as fault
 use Rattle.command_answers.specs.declared.endings.NoDesk.{NoDesk}
-use Rattle.command_answers.specs.declared.endings.NoDesk.TheVariants as no_desk
+use Rattle.desk_commands.proofs.Unloaded.{unloaded}
 
 -- refused by either of two is refused by the one and then by the other
 joined-or : (b c : Bool) (outcome : Result Ending Fault) → joined (b || c) outcome ≡ joined b (joined c outcome)
@@ -164,16 +164,9 @@ module _ (at : ℤ) (found : Option Contents) (text : List ℕ) (old new : Optio
   plan_played named s true (Err fault.Memory) loads is played = played
   plan_played named s false r loads is played = absurd (cc)
 
-  -- its load was refused, and that was shown
-  plan_refused : (refusal : Refusal) (r : Result Ending Fault)
-      → IsLoadRefusal at found refusal → IfOk r (IsShown (refused refusal) old new) → IfErr r IsOfSurroundings → IsPlanPlayed at found text old new r
-  plan_refused refusal (Ok e) why shown of = inr (refusal, why, shown)
-  plan_refused refusal (Err f) why shown of = plan_at_fault f of
-
   -- why there is no desk was shown, or its fault handed on
   pub plan_unplayed : (none : NoDesk) (r : Result Ending Fault)
       → IsWhyNoDesk (IsLoadRefusal at found) none → IfOk r (IsNoneShown none old new) → IfErr r (IsFaultOfNone none) → IsPlanPlayed at found text old new r
-  plan_unplayed (no_desk.Refused q) (Ok e) why shown of = plan_refused q (Ok e) why shown tt
-  plan_unplayed (no_desk.Refused q) (Err g) why shown of = plan_refused q (Err g) why tt of
-  plan_unplayed (no_desk.Faulty f) (Ok e) why shown of = absurd shown
-  plan_unplayed (no_desk.Faulty f) (Err g) why shown of = plan_at_fault g (rw of why)
+  plan_unplayed =
+      unloaded at found old new (IsPlanPlayed at found text old new)
+      (λ (e : Ending) (was : (q : Refusal) × IsLoadRefusal at found q × IsShown (refused q) old new e). inr was) plan_at_fault

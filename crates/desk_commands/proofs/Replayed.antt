@@ -1,5 +1,5 @@
 -- Taking a journal line by line: what was shown so far, and how what comes after it goes on.
-use Rattle.std.proofs.Common.{◌≡◌, ◌≢◌, ◌∙◌, ℕ, ◌+◌, ◌<◌, ◌≤◌, List, [], ◌++◌, length, append_assoc, append-nil, refl, inl, inr, sym, subst, subst₂, arith, ℤ, Bool, true, false, Option, Some, None, Vec, Global, Result, Ok, Err, IfOk, IfErr}
+use Rattle.std.proofs.Common.{◌≡◌, ◌≢◌, ◌∙◌, ℕ, ◌+◌, ◌≤◌, List, [], ◌++◌, length, append_assoc, refl, inl, inr, sym, arith, ℤ, Bool, true, false, Option, Some, None, Vec, Global, Result, Ok, Err, IfOk, IfErr}
 use Rattle.std.specs.Io.KnownBytes.{Appends}
 use Rattle.std.proofs.KnownBytes.{Appends-nil, Appends-trans}
 use Rattle.std.proofs.lemmas.Result.{IfOk-weaker}
@@ -26,14 +26,14 @@ use Rattle.command_answers.specs.declared.endings.Ending.TheVariants as ending
 use Rattle.command_answers.specs.declared.endings.Fault.{Fault}
 use Rattle.command_answers.specs.declared.endings.Fault.TheVariants as fault
 use Rattle.command_answers.specs.declared.endings.NoDesk.{NoDesk}
-use Rattle.command_answers.specs.declared.endings.NoDesk.TheVariants as no_desk
 use Rattle.desk_commands.specs.Turns.{IsFirstLine, IsLoadRefusal, IsLoaded, IsNumberShown, number_line}
-use Rattle.desk_commands.specs.Replays.{Compares, HasNoPlace, IsEntryTaken, IsLineTaken, IsOutcome, IsPlanReplayed, IsReplayed, Replays, Takes, TakesAnswer, TakesLine, acted_line, breaks_off, goes_on, newly_seen, no_more, parting_lines, parts, same_line, unanswered}
+use Rattle.desk_commands.specs.Replays.{Compares, HasNoPlace, IsEntryTaken, IsLineTaken, IsOutcome, IsPlanReplayed, IsReplayed, Replays, Takes, TakesAnswer, TakesLine, acted_line, breaks_off, goes_on, no_more, parting_lines, parts, same_line, unanswered}
 use Rattle.desk_commands.specs.declared.replaying.Outcome.TheVariants as outcome
 use Rattle.desk_commands.specs.declared.replaying.Step.{Step}
 use Rattle.desk_commands.specs.declared.replaying.Step.TheVariants as step
 use Rattle.desk_commands.specs.declared.replaying.Waiting.{Waiting}
 use Rattle.desk_commands.proofs.Played.{shorter}
+use Rattle.desk_commands.proofs.Unloaded.{unloaded}
 
 -- of a journal that is taken at a desk: the lines before `rest` have shown this, and what comes after them goes on
 pub record SoFarTaken (text : List ℕ) (s : Seen) (old now : Option (List ℕ)) (number : ℕ) (w : Option Waiting) (rest : List ℕ) (t : Seen) : Type 0 where
@@ -261,16 +261,9 @@ module _ (at : ℤ) (found : Option Contents) (text : List ℕ) (old new : Optio
   plan_replayed named s true (Err fault.Memory) loads is replayed = replayed
   plan_replayed named s false r loads is replayed = absurd (cc)
 
-  -- its load was refused, and that was shown
-  plan_refused : (refusal : Refusal) (r : Result Ending Fault)
-      → IsLoadRefusal at found refusal → IfOk r (IsShown (refused refusal) old new) → IfErr r IsOfSurroundings → IsPlanReplayed at found text old new r
-  plan_refused refusal (Ok e) why shown of = inr (refusal, why, shown)
-  plan_refused refusal (Err f) why shown of = plan_fails f of
-
   -- why there is no desk was shown, or its fault handed on
   pub plan_unreplayed : (none : NoDesk) (r : Result Ending Fault)
       → IsWhyNoDesk (IsLoadRefusal at found) none → IfOk r (IsNoneShown none old new) → IfErr r (IsFaultOfNone none) → IsPlanReplayed at found text old new r
-  plan_unreplayed (no_desk.Refused q) (Ok e) why shown of = plan_refused q (Ok e) why shown tt
-  plan_unreplayed (no_desk.Refused q) (Err g) why shown of = plan_refused q (Err g) why tt of
-  plan_unreplayed (no_desk.Faulty f) (Ok e) why shown of = absurd shown
-  plan_unreplayed (no_desk.Faulty f) (Err g) why shown of = plan_fails g (rw of why)
+  plan_unreplayed =
+      unloaded at found old new (IsPlanReplayed at found text old new)
+      (λ (e : Ending) (was : (q : Refusal) × IsLoadRefusal at found q × IsShown (refused q) old new e). inr was) plan_fails

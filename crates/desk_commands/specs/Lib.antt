@@ -1,5 +1,6 @@
 pub use Rattle.tracker_http
 pub mod Asked
+pub mod Besides
 pub mod Loads
 pub mod Replays
 pub mod Shown

@@ -12,6 +12,7 @@ mod reports;
 mod requests;
 mod shows;
 mod ticks;
+mod validating;
 
 pub use databases::{Database, DatabaseFile, close_desk, stored_desk};
 pub use loading::{check, load};
@@ -23,3 +24,4 @@ pub use requests::{extend, make};
 pub use shows::show;
 pub use ticks::{is_behind, tick};
 pub use tracker_http::{Desk, Journal, Plan, Reply, ServeFault, serve_one, serve_wanted};
+pub use validating::validate;

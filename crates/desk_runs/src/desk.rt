@@ -7,9 +7,11 @@ use crate::running::run_desk;
 use crate::serving::serve;
 use clap::ArgMatches;
 use clap::error::{Error, ErrorKind};
-use command_answers::{Ending, Fault, validate};
+use command_answers::{Ending, Fault};
 use command_words::desk_command;
-use desk_commands::{Database, DatabaseFile, check, extend, load, make, play, report, show, why};
+use desk_commands::{
+    Database, DatabaseFile, check, extend, load, make, play, report, show, validate, why,
+};
 use plan_basics::Watched;
 use sqlite::{Alter, Connection};
 use std::alloc::Global;
@@ -49,7 +51,7 @@ where
     Connection<S>: Database<S>,
 {
     match name {
-        "validate" => validate(rt, given, out),
+        "validate" => validate::<S, W>(rt, given, out),
         "check" => check(rt, given, out),
         "load" => load::<S, W>(rt, given, out),
         "extend" => extend::<S, W>(rt, given, out),

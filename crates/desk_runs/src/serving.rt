@@ -1,6 +1,7 @@
 // `serve`: the desk of a database's file over HTTP, so many connections, one after another.
 ghost use Rattle.std.specs.Prelude.{None};
 ghost use Rattle.desk_commands.specs.tracker_http.specs.Exchange.{Ends};
+ghost use Rattle.desk_runs.specs.Connections.{Continues};
 
 use super::timed::TimedStream;
 use clap::ArgMatches;
@@ -22,7 +23,8 @@ fn serve_connection<S: Alter + Drop>(
     stream: &TcpStream,
     desk: &mut Desk<S>,
 ) -> Result<(), WireFault>
-    ensures { Ends S.Store result None desk.old desk.new None None }
+    ensures ends { Ends S.Store result None desk.old desk.new None None }
+    ensures continues { Continues S.Store desk.old desk.new }
 {
     let Ok(begun) = Instant::now(rt) else {
         return Err(WireFault::Reader);
@@ -37,12 +39,15 @@ fn serve_connection<S: Alter + Drop>(
 
 /// Serves exactly `connections` connections of a listener, one after another, each with one exchange, which has ten seconds
 /// in all. One that faults counts. The error is that of a connection that couldn't be had; what was served before stands.
+#[tactic(auto, using(crate::proofs::Continuing::continues_on))]
 pub fn serve_listener<S: Alter + Drop>(
     rt: &HostRuntime,
     listener: &TcpListener,
     desk: &mut Desk<S>,
     connections: u64,
-) -> io::Result<()> {
+) -> io::Result<()>
+    ensures continues { Continues S.Store desk.old desk.new }
+{
     for _ in 0..connections {
         let (stream, _) = listener.accept()?;
         // A connection that faults concerns its client alone, who learns of it by the reply that doesn't come.

@@ -1,6 +1,8 @@
 // Connections that wait: they have sent nothing so far, and hold nobody.
-ghost use Rattle.std.specs.Prelude.{◌≤◌};
-ghost use Rattle.std.specs.VecDeque.{deque_len, deque_capacity};
+ghost use Rattle.std.specs.Prelude.{◌≡◌, ◌≤◌, [], None, IfOk, IfSome, option_map, slice_get};
+ghost use Rattle.std.specs.List.{remove};
+ghost use Rattle.std.specs.VecDeque.{deque_capacity, deque_items, deque_len};
+ghost use Rattle.desk_runs.specs.Waits.{place_under};
 
 use mio::unix::SourceFd;
 use mio::{Interest, Registry, Token};
@@ -29,22 +31,28 @@ pub struct Waiting {
 
 impl Waiting {
     /// None waits.
-    pub fn new(alloc: Global) -> Result<Waiting, AllocError> {
+    pub fn new(alloc: Global) -> Result<Waiting, AllocError>
+        ensures { IfOk result (λ waiting. deque_items waiting.streams ≡ []) }
+    {
         Ok(Waiting {
             streams: VecDeque::with_capacity(alloc, MOST_WAITING)?,
             last: LISTENER,
         })
     }
 
+    // The place of the connection of a token, if it waits.
+    fn place(&self, token: usize) -> Option<usize>
+        ensures { result ≡ place_under token (deque_items self.now.streams) }
+    {
+        self.streams.iter().position(|entry| entry.0 == token)
+    }
+
     /// Takes the connection of a token out, if it waits.
-    pub fn take(&mut self, token: usize) -> Option<TcpStream> {
-        let mut at = 0usize;
-        for (other, _) in self.streams.iter() {
-            if *other == token {
-                break;
-            }
-            at = at.wrapping_add(1);
-        }
+    pub fn take(&mut self, token: usize) -> Option<TcpStream>
+        ensures taken { IfSome (place_under token (deque_items self.old.streams)) (λ at. (result ≡ option_map (λ waits. waits.1) (slice_get (deque_items self.old.streams) at)) × (deque_items self.new.streams ≡ remove (deque_items self.old.streams) at)) }
+        ensures none { place_under token (deque_items self.old.streams) ≡ None → (result ≡ None) × (self.new ≡ self.old) }
+    {
+        let at = self.place(token)?;
         let (_, stream) = self.streams.remove(at)?;
         Some(stream)
     }

@@ -1,0 +1,7 @@
+use Rattle.desk_runs.specs.Connections.{Continues}
+use Rattle.desk_runs.proofs.serving.serve_listener.Given as goal
+
+abbrev pub invariant-loop : goal.invariant-loop
+invariant-loop g l = record {
+  continues : Continues g.S.Store l.fn.desk l.desk;
+}
