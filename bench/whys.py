@@ -18,11 +18,12 @@ from collections import Counter
 from contextlib import closing
 from pathlib import Path
 
-from expected_plan import MOST_QUANTITY, denotes_plan, records_of
+from expected_plan import MOST_QUANTITY, denotes_plan, records_of, returns
 from hostile import rewritten
 from measure import HERE, PROGRAM, Unmeasured
 from night import answer_text, why_text
-from rules import Interval, Need, Operation, Plan, answered, key_text, minute_of, moment_text, occurrence_text
+from rules import (WAITING_OR_READY, Interval, Need, Operation, Plan, answered, key_text, minute_of, moment_text, occurrence_of,
+                   occurrence_text, without_what_is_over)
 
 EVENING = "2024-03-01T21:00"
 MINUTES = (0, 1, 20, 61, 200, 480, 721)
@@ -118,6 +119,68 @@ def extension_of(chance, plan):
     return "\n".join(lines) + "\n"
 
 
+def wilder(chance, plan, text):
+    """An extension's text of which a name or two may be others, and which may have another occurrence or dependency."""
+    lines = text.splitlines()
+    application, arrival, number = chance.choice(sorted(plan.operations))
+    named = lines[0].split(",")[1]
+    more = (f"D,{named},{EVENING},1,{application},{moment_text(arrival)},{number},,,", f"D,OTHER,{EVENING},1,{named},{EVENING},1,,,",
+            f"D,{named},{EVENING},1,OTHER,{EVENING},1,,,",
+            f"O,{application},{moment_text(arrival)},5,2024-03-02T06:00,,,,,\nP,{application},{moment_text(arrival)},7,"
+            f"{chance.choice(sorted(plan.attributes))},9,0,0,,")
+    lines += chance.sample(more, chance.choice((0, 0, 1, 2)))
+    for _ in range(chance.choice((0, 0, 1))):
+        at = chance.randrange(1, len(lines))
+        fields = lines[at].split(",")
+        if fields[0] == "P":
+            fields[4] = "WSX"
+        elif fields[0] == "N":
+            fields[4:8] = chance.choice((["NONE", "S", "F", ""], [fields[4], "S", "F", "999999"]))
+        lines[at] = ",".join(fields)
+    return "\n".join(lines) + "\n"
+
+
+def ends_of(fields):
+    """The predecessor and the successor of a dependency's record."""
+    return tuple((at[0], minute_of(at[1]), int(at[2])) for at in (fields[1:4], fields[4:7]))
+
+
+def is_path_told(plan, text, line, keys):
+    """Whether the record of this line is the first with which a path returns, by way of what stays of the plan, and that is told."""
+    pairs, records = set(without_what_is_over(plan).pairs), [line.split(",") for line in text.splitlines()]
+    pairs |= {ends_of(fields) for fields in records[:line - 1] if fields[0] == "D"}
+    closing = ends_of(records[line - 1])
+    turns = list(zip(keys, keys[1:] + keys[:1]))
+    return (not returns(pairs) and turns[0] == tuple(map(key_text, closing))
+            and set(turns) <= {tuple(map(key_text, pair)) for pair in pairs | {closing}})
+
+
+def beside_lines(plan, text):
+    """What is wrong with the records of an extension's text beside what stays of the plan: docs/PROMISES.md, of `faults_beside`."""
+    left = without_what_is_over(plan)
+    records = [line.split(",") for line in text.splitlines()]
+    own = {occurrence_of(f"{fields[1]}/{fields[2]}") for fields in records if fields[0] == "O"}
+    for line, fields in enumerate(records, 1):
+        if fields[0] == "O" and occurrence_of(f"{fields[1]}/{fields[2]}") in left.occurrences:
+            yield f"line {line}: occurrence: the plan has it already: an extension brings new ones"
+        if fields[0] == "P" and fields[4] not in left.attributes:
+            yield f"line {line}: operation: workstation: the plan has none of this name"
+        if fields[0] == "N" and fields[4] not in left.available:
+            yield f"line {line}: need: special resource: the plan has none of this name"
+        elif fields[0] == "N" and fields[5] == "S" and int(fields[7] or 1) > left.quantities[fields[4]]:
+            yield f"line {line}: need: amount: more than the plan has of the special resource"
+        if fields[0] != "D":
+            continue
+        before, after = ends_of(fields)
+        for end, of_pair in ((before, "predecessor"), (after, "successor")):
+            if end[:2] not in own and end not in left.operations:
+                yield f"line {line}: dependency: {of_pair}: neither the extension nor what stays of the plan has it"
+        if before[:2] not in own and left.statuses.get(before) == "D":
+            yield f"line {line}: dependency: predecessor: it is deleted: nothing can wait for it"
+        if after[:2] not in own and left.statuses.get(after, "W") not in WAITING_OR_READY:
+            yield f"line {line}: dependency: successor: it neither waits nor is ready: nothing can come before it"
+
+
 def request_of(chance, plan, at):
     """A request that is often accepted."""
     operation = chance.choice(sorted(plan.operations))
@@ -173,6 +236,24 @@ def ask(trial, chance, plan):
             trial.counts["lines: " + re.sub(r"[A-Z0-9]+/\S+|WS\d|FILE\d|\d{4}-\S+|\d+", "_", line)[:24]] += 1
 
 
+def judge_extension(trial, chance, plan):
+    """An extension beside the plan: no fault exactly where the plan takes it at its clock, else each line that is in the way."""
+    text = wilder(chance, plan, extension_of(chance, plan))
+    (trial.folder / "next.csv").write_text(text)
+    refusal, _, _ = answered(plan, {"at": moment_text(plan.clock), "do": "extend", "records": text})
+    if refusal == 21:
+        return
+    wanted = list(beside_lines(plan, text)) if refusal else []
+    status, told, fault = trial.run("validate", "--extension", "next.csv", "--db", "night.db")
+    got = told.decode().splitlines() or [""]
+    closes = re.fullmatch(r"line (\d+): dependency: closes a path that returns: no path may: (.*)", got[0])
+    if refusal == 19 and closes and not wanted and is_path_told(plan, text, int(closes[1]), closes[2].split(", ")):
+        wanted = got[:1]
+    trial.judge(not fault and status == (1 if refusal else 0) and got == wanted + [f"{len(wanted)} faults" if refusal else "no faults"],
+                "extension", text, wanted, refusal, got, fault)
+    trial.counts[f"extensions refused {refusal}" if refusal else "extensions without faults"] += 1
+
+
 def ask_for(trial, plan, request):
     """One request by `do`; the plan that it has to make."""
     refusal, named, made = answered(plan, request)
@@ -206,6 +287,7 @@ def play_night(trial, seed, requests):
     for _ in range(requests):
         plan = look_at(trial, made)
         ask(trial, chance, plan)
+        judge_extension(trial, chance, plan)
         at += chance.choice((0, 0, 1, 5, 30))
         made = ask_for(trial, plan, request_of(chance, plan, at))
     look_at(trial, made)

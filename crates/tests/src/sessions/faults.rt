@@ -60,6 +60,18 @@ $ validate --plan @absent
 $ validate --extension @absent
 !fault file
 =3
+$ validate --extension @absent --plan @absent --at 2024-3-1
+!fault moment
+=2
+$ validate --extension @absent --plan @night.csv
+!fault moment
+=2
+$ validate --extension @next.csv --plan @absent --at 2024-03-01T22:00
+!fault file
+=3
+$ validate --extension @next.csv --db @absent
+!fault file
+=3
 - absent
 "#;
 

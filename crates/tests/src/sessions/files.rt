@@ -70,6 +70,25 @@ D,PAYROLL,2024-03-01T22:00,40,PAYROLL,2024-03-02T22:00,10,,,
 const NO_OPERATION: &str = "O,PAYROLL,2024-03-02T22:00,5,2024-03-03T05:00,,,,,
 ";
 
+// Each of its records but the sixth is at fault beside the tape drives.
+const BESIDE: &str = "O,DDD,2024-03-01T22:00,5,2024-03-02T05:00,,,,,
+P,DDD,2024-03-01T22:00,10,CPU2,30,0,0,,
+N,DDD,2024-03-01T22:00,10,DISK,S,F,,,
+N,DDD,2024-03-01T22:00,10,TAPE,S,F,3,,
+O,BBB,2024-03-01T22:00,5,2024-03-02T05:00,,,,,
+P,BBB,2024-03-01T22:00,10,CPU1,30,0,0,,
+D,EEE,2024-03-01T22:00,10,DDD,2024-03-01T22:00,10,,,
+D,DDD,2024-03-01T22:00,10,EEE,2024-03-01T22:00,10,,,
+D,DDD,2024-03-01T22:00,10,AAA,2024-03-01T22:00,10,,,
+";
+
+// It comes after the second run of the night, and the first waits for it.
+const ROUND: &str = "O,AUDIT,2024-03-01T22:00,5,2024-03-02T05:00,,,,,
+P,AUDIT,2024-03-01T22:00,10,CPU1,30,0,0,,
+D,PAYROLL,2024-03-01T22:00,20,AUDIT,2024-03-01T22:00,10,,,
+D,AUDIT,2024-03-01T22:00,10,PAYROLL,2024-03-01T22:00,10,,,
+";
+
 // Requests that are played. The line with only blanks is passed over.
 const PLAYED: &str =
     "{\"at\":\"2024-03-01T21:59\",\"do\":\"started\",\"op\":\"PAYROLL/2024-03-01T22:00/005\"}
@@ -139,6 +158,8 @@ pub const FILES: [(&str, &str); 18] = [
     ("next.csv", NEXT),
     ("after_the_old.csv", AFTER_THE_OLD),
     ("no_operation.csv", NO_OPERATION),
+    ("beside.csv", BESIDE),
+    ("round.csv", ROUND),
     ("played", PLAYED),
     ("broken_off", BROKEN_OFF),
     ("journal", JOURNAL),

@@ -297,6 +297,10 @@ accepted
 starts BILLING/2024-03-01T22:00/010
 $ do --db @nights.db --request {"at":"2024-03-01T23:50","do":"ended","op":"PAYROLL/2024-03-01T22:00/040"}
 accepted
+$ validate --extension @after_the_old.csv --db @nights.db
+line 3: dependency: predecessor: neither the extension nor what stays of the plan has it
+1 faults
+=1
 $ extend --db @nights.db --plan @after_the_old.csv --at 2024-03-01T23:55
 refused 5 UnknownOperation
 =1
@@ -317,6 +321,8 @@ OCCURRENCES AT 2024-03-01T23:50
 BILLING          2024-03-01T22:00 5 S 2024-03-02T03:00     1     0
 PAYROLL          2024-03-01T22:00 5 C 2024-03-02T05:00     5     5
 END 2
+$ validate --extension @next.csv --db @nights.db
+no faults
 $ extend --db @nights.db --plan @next.csv --at 2024-03-01T23:55
 accepted
 starts PAYROLL/2024-03-02T22:00/010
@@ -417,6 +423,29 @@ $ validate --extension @no_operation.csv
 line 1: occurrence: it has no operation: it must have at least one
 1 faults
 =1
+$ validate --extension @after_the_old.csv --plan @night.csv --at 2024-03-01T22:00
+no faults
+$ validate --extension @no_operation.csv --plan @night.csv --at 2024-03-01T22:00
+line 1: occurrence: it has no operation: it must have at least one
+1 faults
+=1
+$ validate --extension @beside.csv --plan @tapes.csv --at 2024-03-01T22:00
+line 2: operation: workstation: the plan has none of this name
+line 3: need: special resource: the plan has none of this name
+line 4: need: amount: more than the plan has of the special resource
+line 5: occurrence: the plan has it already: an extension brings new ones
+line 7: dependency: predecessor: neither the extension nor what stays of the plan has it
+line 8: dependency: successor: neither the extension nor what stays of the plan has it
+line 9: dependency: successor: it neither waits nor is ready: nothing can come before it
+7 faults
+=1
+$ validate --extension @round.csv --plan @night.csv --at 2024-03-01T22:00
+line 4: dependency: closes a path that returns: no path may: AUDIT/2024-03-01T22:00/010, PAYROLL/2024-03-01T22:00/010, PAYROLL/2024-03-01T22:00/020
+1 faults
+=1
+$ validate --extension @next.csv --plan @wrong.csv --at 2024-03-01T22:00
+refused 21 BadPlan
+=1
 $ validate --request {"at":"2024-03-01T22:00","do":"tick"}
 no faults
 $ validate --request {"at":"22:00","do":"avail","op":"PAYROLL/2024-03-01T22:00/5"}
@@ -453,7 +482,7 @@ $ play --plan @absent --at 22:00 --requests @absent
 
 /// The program's version, by either option.
 pub const VERSION: &str = r#"$ --version
-plandesk 0.18.0
+plandesk 0.19.0
 $ -V
-plandesk 0.18.0
+plandesk 0.19.0
 "#;
