@@ -149,7 +149,7 @@ D,DAILY,2024-03-01T22:00,10,DAILY,2024-03-01T22:00,20,,,
 ";
 
 /// The files that stand in a session's folder.
-pub const FILES: [(&str, &str); 18] = [
+pub const FILES: [(&str, &str); 20] = [
     ("empty", ""),
     ("night.csv", NIGHT),
     ("wrong.csv", WRONG),
