@@ -4,8 +4,8 @@ use super::claims::{Claim, each};
 use super::tables::{push_lines, so};
 use std::alloc::{AllocError, Global};
 
-// A night of payroll: a chain of five operations, of which one needs a special resource.
-const PAYROLL: &str = "W,CPU1,A,,,,,,,
+/// A night of payroll: a set-up, two runs of which the second needs the customers' file for itself, a check, and a printing.
+pub const PAYROLL: &str = "W,CPU1,A,,,,,,,
 W,SETP,S,,,,,,,
 W,PRT1,C,,,,,,,
 W,DUMM,N,,,,,,,

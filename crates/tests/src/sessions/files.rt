@@ -1,25 +1,5 @@
 // Texts of the files of a session.
-
-// A night: a set-up, two runs of which the second needs the customers' file for itself, a check, and a printing.
-const NIGHT: &str = "W,CPU1,A,,,,,,,
-W,SETP,S,,,,,,,
-W,PRT1,C,,,,,,,
-W,DUMM,N,,,,,,,
-I,CPU1,2024-03-01T22:00,2024-03-02T06:00,2,3,0,,,
-I,SETP,2024-03-01T22:00,2024-03-02T02:00,1,0,0,,,
-X,CUSTFILE,Y,,,,,,,
-O,PAYROLL,2024-03-01T22:00,5,2024-03-02T05:00,,,,,
-P,PAYROLL,2024-03-01T22:00,5,SETP,10,0,0,,
-P,PAYROLL,2024-03-01T22:00,10,CPU1,30,0,0,,
-P,PAYROLL,2024-03-01T22:00,20,CPU1,60,0,0,,
-P,PAYROLL,2024-03-01T22:00,30,DUMM,1,0,0,,
-P,PAYROLL,2024-03-01T22:00,40,PRT1,20,0,0,,
-N,PAYROLL,2024-03-01T22:00,20,CUSTFILE,X,K,,,
-D,PAYROLL,2024-03-01T22:00,5,PAYROLL,2024-03-01T22:00,10,,,
-D,PAYROLL,2024-03-01T22:00,10,PAYROLL,2024-03-01T22:00,20,,,
-D,PAYROLL,2024-03-01T22:00,20,PAYROLL,2024-03-01T22:00,30,,,
-D,PAYROLL,2024-03-01T22:00,30,PAYROLL,2024-03-01T22:00,40,,,
-";
+use plays_layers::resources::PAYROLL;
 
 // A plan but for its last record.
 const WRONG: &str = "W,CPU1,A,,,,,,,
@@ -151,7 +131,7 @@ D,DAILY,2024-03-01T22:00,10,DAILY,2024-03-01T22:00,20,,,
 /// The files that stand in a session's folder.
 pub const FILES: [(&str, &str); 20] = [
     ("empty", ""),
-    ("night.csv", NIGHT),
+    ("night.csv", PAYROLL),
     ("wrong.csv", WRONG),
     ("old.csv", OLD),
     ("tapes.csv", TAPES),
