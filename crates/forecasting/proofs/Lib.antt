@@ -1,0 +1,15 @@
+pub mod Adding
+pub mod AfterRequest
+pub mod Collected
+pub mod Deciding
+pub mod Dues
+pub mod Ends
+pub mod First
+pub mod Followed
+pub mod Gathered
+pub mod Keeping
+pub mod Kept
+pub mod Leading
+pub mod Listing
+pub mod TimesSet
+pub mod TurnsTaken

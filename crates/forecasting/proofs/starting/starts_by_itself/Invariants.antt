@@ -1,0 +1,7 @@
+use Rattle.plan_basics.specs.declared.Attr.TheVariants.{Automatic}
+use Rattle.plan_checks.proofs.Searching.{NoneBefore}
+use Rattle.plan_forecast.specs.Ahead.{MayBegin}
+use Rattle.forecasting.proofs.starting.starts_by_itself.Given as goal
+
+abbrev pub invariant-loop-entry : goal.invariant-loop-entry
+invariant-loop-entry l = NoneBefore l.entries (λ e. MayBegin Automatic l.fn.loaded e.key.op l.fn.at) l.entry-index
