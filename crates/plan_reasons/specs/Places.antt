@@ -1,5 +1,5 @@
 -- Operations by the indices of their rows, and what is told of needs and holders one by one.
-use Rattle.std.specs.Prelude.{◌≡◌, ◌&&◌, ℕ, Bool, true, false, cond, not, List, map, All, Option, Some, None, slice_get}
+use Rattle.std.specs.Prelude.{◌≡◌, ◌&&◌, ℕ, Bool, true, false, cond, not, List, map, All, Option, Some, None, slice_get, slice_index_or}
 use Rattle.std.specs.FinMap.{entries, get}
 use Rattle.std.specs.Map.{keys_of}
 use Rattle.std.specs.Ordering.{eq_by_cmp}
@@ -39,6 +39,10 @@ pub record AreAt (P : Contents) (places : List ℕ) (found : List Unsatisfied) :
 -- which operations aren't satisfied, by their statuses
 abbrev pub unsatisfied_flags : List Status → List Bool
 unsatisfied_flags statuses = map (λ s. not (is_satisfied s)) statuses
+
+-- whether there is an operation at this index that isn't satisfied, by the statuses of all
+abbrev pub is_unsatisfied_at : List Status → ℕ → Bool
+is_unsatisfied_at statuses i = slice_index_or (unsatisfied_flags statuses) i false
 
 -- the reason that this workstation is closed, until its next interval begins, if there is one
 abbrev pub closed_by : Name → Option ℕ → Reason

@@ -1,5 +1,5 @@
 -- The whole answer why an operation doesn't go on at a moment.
-use Rattle.std.specs.Prelude.{◌≡◌, ◌↔◌, ℕ, List, AllPairs, Contains, Some}
+use Rattle.std.specs.Prelude.{◌≡◌, ◌↔◌, ℕ, List, [], ◌∷◌, AllPairs, Contains, Option, Some, None}
 use Rattle.std.specs.declared.cmp.Ordering.TheVariants.{Less}
 use Rattle.plan_basics.specs.Keys.{Name, operation_cmp}
 use Rattle.plan_basics.specs.declared.keys.OpKey.{OpKey}
@@ -18,6 +18,15 @@ use Rattle.plan_reasons.specs.declared.answer.Why.{Why}
 pub record AreReasons (P : Contents) (o : OpKey) (m : ℕ) (reasons : List Reason) : Type 0 where
   pub in_order : AllPairs ComesBefore reasons
   pub exactly : (r : Reason) → Contains reasons r ↔ IsReason P o m r
+
+-- the first of these reasons, if there is one
+abbrev pub first_of : List Reason → Option Reason
+first_of [] = None
+first_of (r ∷ reasons) = Some r
+
+-- the first of the reasons why o doesn't go on at m, in their order; nothing where there is none
+abbrev pub IsFirstReason : Contents → OpKey → ℕ → Option Reason → Type 0
+IsFirstReason P o m found = (reasons : List Reason) × AreReasons P o m reasons × (found ≡ first_of reasons)
 
 -- by resource, and then in key order, each once
 abbrev pub AreInHoldingOrder : List OtherHolder → Type 0

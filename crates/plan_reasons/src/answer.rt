@@ -4,10 +4,9 @@ ghost use Rattle.std.specs.FinMap.{get};
 ghost use Rattle.plan_basics.specs.declared.Refusal.{Refusal};
 ghost use Rattle.plan_basics.specs.declared.keys.OpKey.{OpKey as OpKeyValue};
 ghost use Rattle.plan_model.specs.Contents.{IsInPlan};
-ghost use Rattle.plan_model.specs.Holdings.{given_out};
 ghost use Rattle.plan_reasons.specs.Parts.{GoesOn};
 ghost use Rattle.plan_reasons.specs.Places.{IsAt};
-ghost use Rattle.plan_reasons.specs.Whys.{AreReasons, IsWhy};
+ghost use Rattle.plan_reasons.specs.Whys.{AreReasons, IsFirstReason, IsWhy, first_of};
 ghost use Rattle.plan_core.specs.derived_figures.specs.Reports.{IsReported};
 
 use super::busy::{all_held, all_unavailable};
@@ -19,14 +18,11 @@ use super::reasons::{OtherHolder, Reason, Supply, Unsatisfied};
 use super::scarce::all_scarce;
 use super::single::{at_rest, held, needs_start, too_early};
 use plan_basics::{Moment, OpKey, Refusal};
-use plan_core::{
-    LoadedPlan, ReportedOperation, SoundContents, UncountedContents, given_out_of, holdings_in,
-    summaries_of,
-};
+use plan_core::{LoadedPlan, ReportedOperation, SoundContents};
 use plan_model::OperationRecord;
 use status_rules::Status;
-use std::alloc::{AllocError, Global};
-use workstations::{Capacity, Workstation};
+use std::alloc::Global;
+use workstations::Workstation;
 
 /// Why an operation doesn't go on at a moment.
 #[derive(Debug, Drop)]
@@ -42,21 +38,6 @@ pub struct Why {
     pub roots: Vec<Unsatisfied>,
 }
 
-// What the workstation of an operation of the plan has given out.
-fn taken_at(
-    alloc: Global,
-    contents: &SoundContents,
-    operation: &OperationRecord,
-) -> Result<Capacity, AllocError>
-    requires { (o : OpKeyValue) × (get contents.now.operations o ≡ Some operation.now) }
-    ensures { IfOk result (λ taken. taken ≡ given_out contents.now operation.now.workstation) }
-{
-    let place = contents.workstation_place_of(operation);
-    let summaries = summaries_of(alloc, contents.valid())?;
-    let given = given_out_of(alloc, &UncountedContents::of(contents), &summaries)?;
-    Ok(given[place])
-}
-
 // The workstation of an operation of the plan.
 fn workstation_of<'a>(contents: &'a SoundContents, operation: &OperationRecord) -> &'a Workstation
     requires { (o : OpKeyValue) × (get contents.now.operations o ≡ Some operation.now) }
@@ -70,20 +51,23 @@ fn workstation_of<'a>(contents: &'a SoundContents, operation: &OperationRecord) 
 fn note_start(
     alloc: Global,
     reasons: &mut Vec<Reason>,
-    contents: &SoundContents,
+    loaded: &LoadedPlan,
     key: &OpKey,
     reported: &ReportedOperation<'_>,
     at: Moment,
 ) -> Result<(), Refusal>
-    requires { IsReported contents.now key.now reported.now }
-    ensures noted { OnOk result (GoesOn contents.now key.now reported.now.operation.now at 3 11 reasons.old.items reasons.new.items) }
+    requires { IsReported loaded.now key.now reported.now }
+    ensures noted { OnOk result (GoesOn loaded.now key.now reported.now.operation.now at 3 11 reasons.old.items reasons.new.items) }
     ensures refused { IfErr result (λ r. r ≡ Refusal.Memory) }
 {
     if !needs_start(reported) {
         return Ok(());
     }
     let operation = reported.operation;
-    let taken = taken_at(alloc, contents, operation)?;
+    let contents = loaded.contents();
+    let outline = loaded.outline();
+    let taken = outline.given_out_at(operation);
+    let holdings = outline.holdings();
     let workstation = workstation_of(contents, operation);
     note(reasons, too_early(operation, at))?;
     note(reasons, closed(workstation, at))?;
@@ -100,11 +84,10 @@ fn note_start(
         lacks(workstation, operation, &taken, Supply::R2, at),
     )?;
     note_all(reasons, all_unavailable(alloc, contents, operation)?)?;
-    let holdings = holdings_in(alloc, contents.valid())?;
-    note_all(reasons, all_held(alloc, key, operation, &holdings)?)?;
+    note_all(reasons, all_held(alloc, key, operation, holdings)?)?;
     note_all(
         reasons,
-        all_scarce(alloc, contents, key, operation, &holdings)?,
+        all_scarce(alloc, contents, key, operation, holdings)?,
     )?;
     Ok(())
 }
@@ -127,16 +110,42 @@ fn reasons_at(
     note(&mut reasons, at_rest(&reported))?;
     note_all(&mut reasons, waits(alloc, loaded, place)?)?;
     note(&mut reasons, held(reported.operation))?;
-    note_start(alloc, &mut reasons, loaded.contents(), key, &reported, at)?;
+    note_start(alloc, &mut reasons, loaded, key, &reported, at)?;
     Ok(reasons)
+}
+
+// The first of these reasons, if there is one.
+fn first_of(reasons: &[Reason]) -> Option<Reason>
+    ensures { result ≡ first_of reasons.now }
+{
+    reasons.first().copied()
+}
+
+/// The first reason why the operation at an index, of this key, doesn't go on at a moment, as `explain` lists them; `None`
+/// where there is none. The error is always `Memory`.
+///
+/// It takes the time of the operation's predecessors, its needs and their holders.
+pub fn first_reason(
+    alloc: Global,
+    loaded: &LoadedPlan,
+    key: &OpKey,
+    place: usize,
+    at: Moment,
+) -> Result<Option<Reason>, Refusal>
+    requires { IsAt loaded.now place key.now }
+    ensures reason { IfOk result (IsFirstReason loaded.now key.now at) }
+    ensures refused { IfErr result (λ r. r ≡ Refusal.Memory) }
+{
+    let reasons = reasons_at(alloc, loaded, key, place, at)?;
+    Ok(first_of(&reasons))
 }
 
 /// Why an operation doesn't go on at a moment: every reason, who holds what lacks, and the roots of the chain that it waits
 /// for; `None` exactly where the operation isn't in the plan. The error is always `Memory`.
 ///
 /// On a workstation of attribute A or S it goes on by a start, on one of attribute C by its completion, on one of
-/// attribute N, and as a NOP, by passing. It takes time linear in the plan's operations for what is given out and held, and
-/// beside that in what is upstream.
+/// attribute N, and as a NOP, by passing. It takes the time of `roots`; its reasons alone take that of its predecessors, its
+/// needs and their holders.
 pub fn explain(
     alloc: Global,
     loaded: &LoadedPlan,

@@ -16,7 +16,7 @@ mod scarce;
 mod single;
 mod telling;
 
-pub use answer::{Why, explain};
+pub use answer::{Why, explain, first_reason};
 pub use lacking::next_opening;
 pub use plan::why;
 pub use plan_core::{
@@ -27,7 +27,7 @@ pub use reasons::{
     Beginning, Closing, Obstacle, OtherHolder, Reason, Rest, Scarcity, Shortage, Supply,
     Unsatisfied,
 };
-pub use telling::why_text;
+pub use telling::{put_reason, why_text};
 
 /// The law that of an operation on a workstation of attribute A or S no reason is listed exactly where it is allowed to
 /// start. It does nothing.

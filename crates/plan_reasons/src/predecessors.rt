@@ -1,17 +1,20 @@
 // What an operation waits for, and the roots of that chain.
-ghost use Rattle.std.specs.Prelude.{◌≡◌, ◌<◌, ◌++◌, ℕ, All, IfOk, IfErr, OnOk, length, map, slice_get};
+ghost use Rattle.std.specs.Prelude.{◌≡◌, ◌<◌, ◌↔◌, ℕ, All, Contains, IfOk, IfErr, filter, length, map, slice_get};
 ghost use Rattle.std.specs.FinMap.{entries};
+ghost use Rattle.graph_paths.specs.Upstream.{AreAscending};
+ghost use Rattle.operation_graph.specs.Graphs.{HasEdge, IsGraph, IsSet};
 ghost use Rattle.plan_basics.specs.declared.Refusal.{Refusal};
 ghost use Rattle.plan_basics.specs.declared.keys.OpKey.{OpKey};
 ghost use Rattle.plan_model.specs.Contents.{Operation};
 ghost use Rattle.plan_model.specs.Status.{HasStatus};
 ghost use Rattle.plan_model.specs.Valid.{IsSound};
 ghost use Rattle.plan_reasons.specs.Parts.{AreOfKind};
-ghost use Rattle.plan_reasons.specs.Places.{AreAt, IsAt, unsatisfied_flags};
+ghost use Rattle.plan_reasons.specs.Places.{AreAt, IsAt, is_unsatisfied_at, unsatisfied_flags};
 ghost use Rattle.plan_reasons.specs.Whys.{AreRoots};
 
 use super::reasons::{Reason, Unsatisfied};
-use graph_paths::{flagged_preds, sources};
+use graph_paths::sources;
+use operation_graph::Graph;
 use plan_basics::Refusal;
 use plan_core::LoadedPlan;
 use status_rules::Status;
@@ -81,6 +84,61 @@ pub fn read_for_proof(loaded: &LoadedPlan)
     let _ = loaded.contents().valid();
 }
 
+// Whether there is an operation at an index that isn't satisfied, by the statuses of all.
+fn is_unsatisfied_at(statuses: &[Status], place: usize) -> bool
+    ensures { result ≡ is_unsatisfied_at statuses.now place }
+{
+    match statuses.get(place) {
+        Some(status) => !status.is_satisfied(),
+        None => false,
+    }
+}
+
+// Those of these operations that aren't satisfied, by the statuses of all, in their order.
+fn unsatisfied_of(
+    alloc: Global,
+    statuses: &[Status],
+    places: &[usize],
+) -> Result<Vec<usize>, AllocError>
+    ensures { IfOk result (λ found. found.items ≡ filter (is_unsatisfied_at statuses.now) places.now) }
+{
+    let mut found = Vec::new(alloc);
+    for place in places {
+        if is_unsatisfied_at(statuses, *place) {
+            found.push(*place)?;
+        }
+    }
+    Ok(found)
+}
+
+// The predecessors of a node, from the least up.
+fn preds_in_order(alloc: Global, graph: &Graph, node: usize) -> Result<Vec<usize>, AllocError>
+    requires { node < graph.now.nodes }
+    ensures in_order { IfOk result (λ preds. AreAscending preds.items) }
+    ensures nodes { IfOk result (λ preds. (p : ℕ) → Contains preds.items p ↔ HasEdge graph.now p node) }
+    ensures graph { IsGraph graph.now }
+{
+    let mut preds = Vec::from_slice(alloc, graph.preds(node))?;
+    preds.sort_unstable();
+    Ok(preds)
+}
+
+// The predecessors of a node that aren't satisfied, by the statuses of all, from the least up. The error is always `Memory`.
+fn unsatisfied_preds(
+    alloc: Global,
+    graph: &Graph,
+    statuses: &[Status],
+    node: usize,
+) -> Result<Vec<usize>, Refusal>
+    requires { node < graph.now.nodes }
+    ensures in_order { IfOk result (λ found. AreAscending found.items) }
+    ensures nodes { IfOk result (λ found. (p : ℕ) → Contains found.items p ↔ (HasEdge graph.now p node × IsSet (unsatisfied_flags statuses.now) p)) }
+    ensures refused { IfErr result (λ r. r ≡ Refusal.Memory) }
+{
+    let preds = preds_in_order(alloc, graph, node)?;
+    Ok(unsatisfied_of(alloc, statuses, &preds)?)
+}
+
 // The operations that the waiting operation at an index waits for, in key order. The error is always `Memory`.
 fn waited_for(alloc: Global, loaded: &LoadedPlan, place: usize) -> Result<Vec<Reason>, Refusal>
     requires place { place < length (entries loaded.now.operations) }
@@ -89,8 +147,7 @@ fn waited_for(alloc: Global, loaded: &LoadedPlan, place: usize) -> Result<Vec<Re
     ensures refused { IfErr result (λ r. r ≡ Refusal.Memory) }
 {
     read_for_proof(loaded);
-    let flags = unsatisfied_flags(alloc, loaded.statuses())?;
-    let places = flagged_preds(alloc, loaded.graph(), &flags, place)?;
+    let places = unsatisfied_preds(alloc, loaded.graph(), loaded.statuses(), place)?;
     let found = unsatisfied_at_each(alloc, loaded, &places)?;
     Ok(reasons_to_wait(alloc, &found)?)
 }

@@ -3,4 +3,5 @@
 mod lines;
 mod texts;
 
+pub use lines::put_reason;
 pub use texts::why_text;

@@ -210,7 +210,7 @@ fn put_awaited(text: &mut Vec<u8>, awaited: &Unsatisfied) -> Result<(), AllocErr
 }
 
 /// Puts the line of a reason behind a text. It fails for want of memory only.
-pub(crate) fn put_reason(text: &mut Vec<u8>, reason: &Reason) -> Result<(), AllocError>
+pub fn put_reason(text: &mut Vec<u8>, reason: &Reason) -> Result<(), AllocError>
     ensures { OnOk result (text.new.items ≡ text.old.items ++ reason_line reason.now) }
 {
     match reason {

@@ -1,17 +1,14 @@
 use Rattle.std.proofs.Common.{◌≡◌, sym, subst, ◌∙◌, Some, slice_get}
 use Rattle.std.specs.FinMap.{entries}
 use Rattle.std.proofs.lemmas.Option.{same_Some}
-use Rattle.plan_model.specs.Contents.{Contents, Operation}
+use Rattle.plan_model.specs.Contents.{Operation}
 use Rattle.plan_core.specs.plan_status.proofs.LoadedRows.{row_found}
-use Rattle.plan_core.specs.derived_figures.specs.Reports.{IsReported}
-use Rattle.plan_reasons.specs.Parts.{AreBefore, GoesOn}
+use Rattle.plan_reasons.specs.Parts.{AreBefore}
 use Rattle.plan_reasons.proofs.Collecting.{all_found, more_of_kind, more_of_list, none_before}
 use Rattle.plan_reasons.proofs.answer.reasons_at.Goals as goal
 
 pub note_start-requires : goal.note_start-requires
-note_start-requires c =
-    let o = c.args.key.now in
-    subst (λ (P : Contents). IsReported P o c.reported_at-reported.result) (sym c.contents.ensures.contents) (c.reported_at-reported.ensures o c.requires.0 c.requires.1)
+note_start-requires c = c.reported_at-reported.ensures c.args.key.now c.requires.0 c.requires.1
 
 pub returns-clause-reasons : goal.returns-clause-reasons
 returns-clause-reasons c =
@@ -26,5 +23,4 @@ returns-clause-reasons c =
     let rest = more_of_kind P o op m 0 c.new-reasons.result.items c.note.new.items.items c.at_rest.result c.in_ok-note.ensures (c.at_rest.ensures P c.read_for_proof.ensures.valid o m reported) none in
     let waiting = more_of_list P o op m 1 c.note.new.items.items c.note_all.new.items.items c.in_ok-waits.field-0.items c.in_ok-note_all.ensures (c.in_ok-waits.ensures.reasons o op m at) rest in
     let held = more_of_kind P o op m 2 c.note_all.new.items.items c.note-2.new.items.items c.held.result c.in_ok-note-2.ensures (c.held.ensures P o m) waiting in
-    let start = subst (λ (C : Contents). GoesOn C o op m 3 11 c.note-2.new.items.items c.note_start.new.reasons.items) c.contents.ensures.contents c.in_ok-note_start.ensures.noted in
-    all_found P o op m c.note_start.new.reasons.items reported.operation (start held)
+    all_found P o op m c.note_start.new.reasons.items reported.operation (c.in_ok-note_start.ensures.noted held)
