@@ -1,0 +1,42 @@
+-- The text of a forecast, part by part.
+use Rattle.std.specs.Prelude.{◌≡◌, Bool, true, false, ℕ, List, [], ◌∷◌, ◌++◌, map, codes, Option}
+use Rattle.plan_basics.specs.MomentTexts.{moment_text}
+use Rattle.plan_basics.specs.declared.keys.OpKey.{OpKey}
+use Rattle.plan_model.specs.Plan.{Plan}
+use Rattle.plan_outlooks.specs.Outlooks.{IsOutlook}
+use Rattle.plan_outlooks.specs.declared.rows.Outlooks.{Outlooks}
+use Rattle.plan_shows.specs.Lines.{report}
+use Rattle.forecast_texts.specs.Columns.{occurrence_columns, operation_columns, path_columns, standstill_columns}
+
+-- what a first line ends with: the span of the forecast
+abbrev pub span : Outlooks → List (List ℕ)
+span x = codes "FROM" ∷ moment_text x.from ∷ codes "TO" ∷ moment_text x.to ∷ []
+
+-- the occurrences
+abbrev pub occurrences_text : Outlooks → List ℕ
+occurrences_text x = report (codes "FORECAST OF OCCURRENCES" ∷ span x) (map occurrence_columns x.occurrences.items)
+
+-- the operations that begin or are going
+abbrev pub operations_text : Outlooks → List ℕ
+operations_text x = report (codes "FORECAST OF OPERATIONS" ∷ span x) (map operation_columns x.operations.items)
+
+-- the paths by which occurrences will be late
+abbrev pub paths_text : Outlooks → List ℕ
+paths_text x = report (codes "LATE PATHS" ∷ span x) (map path_columns x.paths.items)
+
+-- how what doesn't begin is called: where more may come after the forecast it is only not started by then
+abbrev pub never_words : Bool → List ℕ
+never_words true = codes "NOT STARTED"
+never_words false = codes "NEVER STARTED"
+
+-- the operations that never begin
+abbrev pub standstills_text : Outlooks → List ℕ
+standstills_text x = report (never_words x.is_cut ∷ span x) (map standstill_columns x.standstills.items)
+
+-- the whole text
+abbrev pub forecast_text : Outlooks → List ℕ
+forecast_text x = occurrences_text x ++ operations_text x ++ paths_text x ++ standstills_text x
+
+-- it tells what is read off a forecast of this plan
+abbrev pub IsForecastText : Plan → (OpKey → Option ℕ) → ℕ → Option ℕ → List ℕ → Type 0
+IsForecastText P known from until text = (x : Outlooks) × IsOutlook P known from until x × (text ≡ forecast_text x)

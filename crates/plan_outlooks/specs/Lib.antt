@@ -1,0 +1,14 @@
+pub use Rattle.forecasting
+pub use Rattle.plan_reasons
+pub use Rattle.plan_forecast
+pub use Rattle.plan_records
+pub mod Forecasts
+pub mod Rows
+pub mod Operations
+pub mod Occurrences
+pub mod Standstills
+pub mod Paths
+pub mod Outlooks
+pub mod Lent
+pub mod PathParts
+pub mod Spans
