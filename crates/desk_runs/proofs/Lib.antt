@@ -1,2 +1,4 @@
 mod Continuing
 mod Ending
+mod Faults
+mod Followed

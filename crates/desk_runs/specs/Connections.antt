@@ -1,5 +1,5 @@
 -- Connections that are served one after another: what they leave of the desk, and when the next is served.
-use Rattle.std.specs.Prelude.{◌≡◌, ◌≢◌, ℕ, true, List, Option, Some, None, Result, Err, ⊤}
+use Rattle.std.specs.Prelude.{◌≡◌, ◌≢◌, ℕ, true, List, Option, None, Result, Err, ⊤}
 use Rattle.sqlite.specs.Held.{state}
 use Rattle.sqlite.specs.State.{Survives}
 use Rattle.sqlite.specs.Store.{Ghosts}
@@ -7,6 +7,7 @@ use Rattle.desk_commands.specs.tracker_http.specs.plan_reports.specs.desk_tables
 use Rattle.desk_commands.specs.tracker_http.specs.Served.{Ends}
 use Rattle.desk_commands.specs.tracker_http.specs.declared.served.ServeFault.{ServeFault}
 use Rattle.desk_commands.specs.tracker_http.specs.declared.served.ServeFault.TheVariants as fault
+use Rattle.desk_commands.specs.tracker_http.specs.declared.terms.Terms.{Terms}
 
 -- from one desk to the other some connections were served: where the tables held what the desk held, and the store is clean afterwards, they hold what it holds then
 pub record Continues {S : Type 0} (g : Ghosts S) (d e : DeskState S) : Type 0 where
@@ -15,6 +16,6 @@ pub record Continues {S : Type 0} (g : Ghosts S) (d e : DeskState S) : Type 0 wh
   pub survives : Survives (state g d.conn) (state g e.conn) (λ _. ⊤)
 
 -- a connection was served, and the next may be: however its exchange ended, not for want of a journal's line, and the desk carries out calls
-abbrev pub GoesOn : {S : Type 0} → Ghosts S → ℕ → DeskState S → DeskState S → Option (List ℕ) → Option (List ℕ) → Type 0
-GoesOn g ahead d e old new = (e.is_usable ≡ true)
-    × ((ended : Result (Unit {0}) ServeFault) × (ended ≢ Err fault.Journal) × Ends g (Some ahead) ended None d e (None, None) (old, new))
+abbrev pub GoesOn : {S : Type 0} → Ghosts S → Terms → DeskState S → DeskState S → Option (List ℕ) → Option (List ℕ) → Type 0
+GoesOn g terms d e old new = (e.is_usable ≡ true)
+    × ((ended : Result (Unit {0}) ServeFault) × (ended ≢ Err fault.Journal) × Ends g terms ended None d e (None, None) (old, new))

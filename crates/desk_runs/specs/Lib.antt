@@ -1,2 +1,3 @@
 pub mod Connections
+pub mod Following
 pub mod Waits

@@ -10,7 +10,8 @@ use clap::error::{Error, ErrorKind};
 use command_answers::{Ending, Fault};
 use command_words::desk_command;
 use desk_commands::{
-    Database, DatabaseFile, check, extend, load, make, play, report, show, validate, why,
+    Database, DatabaseFile, Prospect, check, extend, load, look_ahead, make, play, report, show,
+    validate, why,
 };
 use plan_basics::Watched;
 use sqlite::{Alter, Connection};
@@ -59,6 +60,8 @@ where
         "report" => report::<S, W>(rt, given, out),
         "show" => show::<S, W>(rt, given, out),
         "why" => why::<S, W>(rt, given, out),
+        "forecast" => look_ahead::<S, W>(rt, Prospect::Forecast, given, out),
+        "board" => look_ahead::<S, W>(rt, Prospect::Board, given, out),
         "serve" => serve::<S, W>(rt, given, out),
         "desk" => run_desk::<S, W>(rt, given, out),
         "play" => play(rt, given, out),

@@ -3,6 +3,7 @@
 #![tactic(auto)]
 
 mod desk;
+mod following;
 mod journals;
 mod polling;
 mod running;

@@ -1,15 +1,17 @@
 // Connections served as they have something to read, one after another, until a fault ends it: one that sends nothing holds
 // nobody.
-ghost use Rattle.std.specs.Prelude.{◌≡◌, ◌⊎◌, true, Err, None, Some, OnOk, IfErr};
+ghost use Rattle.std.specs.Prelude.{◌≡◌, ◌⊎◌, true, Err, None, OnOk, IfErr};
 ghost use Rattle.desk_commands.specs.tracker_http.specs.desk_journal.specs.Lines.{entries_of};
 ghost use Rattle.desk_commands.specs.tracker_http.specs.Served.{Ends, Stands};
 ghost use Rattle.command_answers.specs.declared.endings.Fault.{Fault};
 ghost use Rattle.desk_runs.specs.Connections.{Continues, GoesOn};
+ghost use Rattle.desk_runs.specs.Following.{AreFollowed, AreStillTermsOf, AreTermsOf};
 
+use super::following::follow;
 use super::timed::{ReplyStream, TimedStream};
 use super::waiting::{LISTENER, MOST_WAITING, Waiting};
 use command_answers::Fault;
-use desk_commands::{Desk, Journal, ServeFault, serve_wanted};
+use desk_commands::{Desk, Journal, ServeFault, Terms, serve_wanted};
 use mio::event::Event;
 use mio::unix::SourceFd;
 use mio::{Events, Interest, Poll, Token};
@@ -30,9 +32,9 @@ fn serve_stream<J: Write, S: Alter + Drop>(
     stream: &TcpStream,
     journal: &mut Journal<J>,
     desk: &mut Desk<S>,
-    ahead: u32,
+    terms: &Terms,
 ) -> Result<(), ServeFault>
-    ensures ends { Ends S.Store (Some ahead) result None desk.old desk.new (None, None) (entries_of J.contents journal.old, entries_of J.contents journal.new) }
+    ensures ends { Ends S.Store terms.now result None desk.old desk.new (None, None) (entries_of J.contents journal.old, entries_of J.contents journal.new) }
     ensures stands { Stands None desk.old desk.new (entries_of J.contents journal.old) (entries_of J.contents journal.new) }
     ensures continues { Continues S.Store desk.old desk.new }
 {
@@ -45,42 +47,49 @@ fn serve_stream<J: Write, S: Alter + Drop>(
         &mut Watched::new(ReplyStream::new(rt, stream)),
         journal,
         desk,
-        Some(ahead),
+        terms,
     )
 }
 
-/// Serves a connection. One that faults concerns its client alone, who learns of it by the reply that doesn't come. `File`
-/// where the journal took no line, or the desk has to be opened again: then no other is served (`goes_on`).
+/// Serves a connection, and follows the plan through its exchange. One that faults concerns its client alone, who learns of it
+/// by the reply that doesn't come. `File` where the journal took no line, or the desk has to be opened again, `Memory` where
+/// the starts couldn't be noted: then no other is served (`goes_on`).
 fn serve_readable<J: Write, S: Alter + Drop>(
     rt: &HostRuntime,
     stream: &TcpStream,
     journal: &mut Journal<J>,
     desk: &mut Desk<S>,
-    ahead: u32,
+    terms: &mut Terms,
 ) -> Result<(), Fault>
-    ensures goes_on { OnOk result (GoesOn S.Store ahead desk.old desk.new (entries_of J.contents journal.old) (entries_of J.contents journal.new)) }
-    ensures fault { IfErr result (λ fault. fault ≡ Fault.File) }
+    requires known { AreTermsOf desk.old.plan terms.old }
+    ensures followed { OnOk result (AreFollowed desk.old.plan desk.new.plan terms.old terms.new) }
+    ensures goes_on { OnOk result (GoesOn S.Store terms.old desk.old desk.new (entries_of J.contents journal.old) (entries_of J.contents journal.new)) }
+    ensures fault { IfErr result (λ fault. (fault ≡ Fault.File) ⊎ ((fault ≡ Fault.Memory) × (desk.old.is_usable ≡ true → desk.new.is_usable ≡ true))) }
     ensures stands { Stands None desk.old desk.new (entries_of J.contents journal.old) (entries_of J.contents journal.new) }
     ensures continues { Continues S.Store desk.old desk.new }
 {
-    let served = serve_stream(rt, stream, journal, desk, ahead);
+    let served = serve_stream(rt, stream, journal, desk, terms);
     if matches!(served, Err(ServeFault::Journal)) || !desk.is_usable() {
         return Err(Fault::File);
     }
+    follow(terms, desk.plan())?;
     Ok(())
 }
 
 /// Serves the connection of an event, if it waits; and tells whether the event is the listener's.
+#[tactic(auto, using(crate::proofs::Followed::follows_itself))]
 fn serve_event<J: Write, S: Alter + Drop>(
     rt: &HostRuntime,
     event: &Event,
     waiting: &mut Waiting,
     journal: &mut Journal<J>,
     desk: &mut Desk<S>,
-    ahead: u32,
+    terms: &mut Terms,
 ) -> Result<bool, Fault>
+    requires known { AreTermsOf desk.old.plan terms.old }
     ensures usable { OnOk result (desk.old.is_usable ≡ true → desk.new.is_usable ≡ true) }
-    ensures fault { IfErr result (λ fault. fault ≡ Fault.File) }
+    ensures fault { IfErr result (λ fault. (fault ≡ Fault.File) ⊎ ((fault ≡ Fault.Memory) × (desk.old.is_usable ≡ true → desk.new.is_usable ≡ true))) }
+    ensures followed { OnOk result (AreFollowed desk.old.plan desk.new.plan terms.old terms.new) }
     ensures continues { Continues S.Store desk.old desk.new }
 {
     let Token(token) = event.token();
@@ -90,7 +99,7 @@ fn serve_event<J: Write, S: Alter + Drop>(
     let Some(stream) = waiting.take(token) else {
         return Ok(false);
     };
-    serve_readable(rt, &stream, journal, desk, ahead)?;
+    serve_readable(rt, &stream, journal, desk, terms)?;
     Ok(false)
 }
 
@@ -101,15 +110,17 @@ fn serve_events<J: Write, S: Alter + Drop>(
     waiting: &mut Waiting,
     journal: &mut Journal<J>,
     desk: &mut Desk<S>,
-    ahead: u32,
+    terms: &mut Terms,
 ) -> Result<bool, Fault>
+    requires known { AreTermsOf desk.old.plan terms.old }
     ensures usable { OnOk result (desk.old.is_usable ≡ true → desk.new.is_usable ≡ true) }
-    ensures fault { IfErr result (λ fault. fault ≡ Fault.File) }
+    ensures fault { IfErr result (λ fault. (fault ≡ Fault.File) ⊎ ((fault ≡ Fault.Memory) × (desk.old.is_usable ≡ true → desk.new.is_usable ≡ true))) }
+    ensures known { OnOk result (AreStillTermsOf desk.new.plan terms.old terms.new) }
     ensures continues { Continues S.Store desk.old desk.new }
 {
     let mut knocking = false;
     for event in events.iter() {
-        let told = serve_event(rt, event, waiting, journal, desk, ahead)?;
+        let told = serve_event(rt, event, waiting, journal, desk, terms)?;
         knocking |= told;
     }
     Ok(knocking)
@@ -150,17 +161,19 @@ fn serve_turn<J: Write, S: Alter + Drop>(
     door: &mut Door,
     journal: &mut Journal<J>,
     desk: &mut Desk<S>,
-    ahead: u32,
+    terms: &mut Terms,
 ) -> Result<(), Fault>
+    requires known { AreTermsOf desk.old.plan terms.old }
     ensures usable { desk.old.is_usable ≡ true → (desk.new.is_usable ≡ true) ⊎ (result ≡ Err Fault.File) }
-    ensures fault { IfErr result (λ fault. (fault ≡ Fault.File) ⊎ (fault ≡ Fault.Network)) }
+    ensures fault { IfErr result (λ fault. (fault ≡ Fault.File) ⊎ (fault ≡ Fault.Memory) ⊎ (fault ≡ Fault.Network)) }
+    ensures known { OnOk result (AreStillTermsOf desk.new.plan terms.old terms.new) }
     ensures continues { Continues S.Store desk.old desk.new }
 {
     let limit = door.knocking.then_some(Duration::ZERO);
     if door.poll.poll(&mut door.events, limit).is_err() {
         return Err(Fault::Network);
     }
-    let told = serve_events(rt, &door.events, &mut door.waiting, journal, desk, ahead)?;
+    let told = serve_events(rt, &door.events, &mut door.waiting, journal, desk, terms)?;
     if door.knocking || told {
         let Ok(more) = door.waiting.take_knocking(door.poll.registry(), listener) else {
             return Err(Fault::Network);
@@ -171,24 +184,25 @@ fn serve_turn<J: Write, S: Alter + Drop>(
 }
 
 /// Serves a listener's connections, each with one exchange, until a fault ends it: `File` where the journal took no line or
-/// the desk has to be opened again, `Network` where no connection can be had.
-#[tactic(auto, using(crate::proofs::Continuing::continues_on))]
+/// the desk has to be opened again, `Memory` where starts couldn't be noted, `Network` where no connection can be had.
+#[tactic(auto, using(crate::proofs::Continuing::continues_on, crate::proofs::Followed::still))]
 pub fn serve_polled<J: Write, S: Alter + Drop>(
     rt: &HostRuntime,
     listener: &TcpListener,
     journal: &mut Journal<J>,
     desk: &mut Desk<S>,
-    ahead: u32,
+    terms: &mut Terms,
 ) -> Fault
+    requires known { AreTermsOf desk.old.plan terms.old }
     ensures usable { desk.old.is_usable ≡ true → (desk.new.is_usable ≡ true) ⊎ (result ≡ Fault.File) }
-    ensures fault { (result ≡ Fault.File) ⊎ (result ≡ Fault.Network) }
+    ensures fault { (result ≡ Fault.File) ⊎ (result ≡ Fault.Memory) ⊎ (result ≡ Fault.Network) }
     ensures continues { Continues S.Store desk.old desk.new }
 {
     let Ok(mut door) = door_of(rt, listener) else {
         return Fault::Network;
     };
     for _ in 0..u64::MAX {
-        if let Err(fault) = serve_turn(rt, listener, &mut door, journal, desk, ahead) {
+        if let Err(fault) = serve_turn(rt, listener, &mut door, journal, desk, terms) {
             return fault;
         }
     }

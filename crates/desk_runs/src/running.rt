@@ -1,15 +1,19 @@
 // `desk`: the desk of a database's file over HTTP, until it is ended.
-ghost use Rattle.std.specs.Prelude.{◌≡◌, IfOk, IsErr};
+ghost use Rattle.std.specs.Prelude.{◌≡◌, IfOk, IsErr, OnOk};
 ghost use Rattle.command_answers.specs.declared.endings.Ending.{Ending};
 ghost use Rattle.desk_runs.specs.Connections.{Continues};
+ghost use Rattle.desk_runs.specs.Following.{AreFollowed, AreTermsOf};
 
+use super::following::{first_terms, follow};
 use super::journals::opened_journal;
 use super::polling::serve_polled;
 use super::serving::taken_port;
 use clap::ArgMatches;
 use command_answers::{Ending, Fault, moment_if_given, tell, tell_no_desk};
 use command_words::value_of;
-use desk_commands::{Database, Desk, Journal, Reply, close_desk, is_behind, stored_desk, tick};
+use desk_commands::{
+    Database, Desk, Journal, Reply, Terms, close_desk, is_behind, stored_desk, tick,
+};
 use plan_basics::Watched;
 use sqlite::{Alter, Connection};
 use std::io::Write;
@@ -24,27 +28,32 @@ fn listen<J: Write, S: Alter + Drop, W: Write>(
     given: &ArgMatches,
     journal: &mut Journal<J>,
     desk: &mut Desk<S>,
+    terms: &mut Terms,
     out: &mut Watched<W>,
 ) -> Result<Ending, Fault>
+    requires known { AreTermsOf desk.old.plan terms.old }
     ensures faulty { IsErr result }
     ensures continues { Continues S.Store desk.old desk.new }
 {
-    let ahead = given.get_one::<u32>("ahead").unwrap_or(MINUTES_AHEAD);
     let listener = taken_port(rt, given)?;
     writeln!(out, "listening")?;
     out.flush()?;
-    Err(serve_polled(rt, &listener, journal, desk, ahead))
+    Err(serve_polled(rt, &listener, journal, desk, terms))
 }
 
 /// Brings the plan to the moment that the words give, where that is later than its clock; and gives the answer to the tick,
 /// if one was asked for.
+#[tactic(auto, using(crate::proofs::Followed::follows_itself))]
 fn brought_to<J: Write, S: Alter + Drop>(
     rt: &HostRuntime,
     given: &ArgMatches,
     at: Option<i64>,
     journal: &mut Journal<J>,
     desk: &mut Desk<S>,
+    terms: &mut Terms,
 ) -> Result<Option<Reply>, Fault>
+    requires known { AreTermsOf desk.old.plan terms.old }
+    ensures followed { OnOk result (AreFollowed desk.old.plan desk.new.plan terms.old terms.new) }
     ensures continues { Continues S.Store desk.old desk.new }
 {
     let Some(at) = at else {
@@ -54,6 +63,7 @@ fn brought_to<J: Write, S: Alter + Drop>(
         return Ok(None);
     }
     let reply = tick(rt.alloc(), journal, desk, value_of(given, "at"))?;
+    follow(terms, desk.plan())?;
     Ok(Some(reply))
 }
 
@@ -70,10 +80,14 @@ fn run<S: Alter + Drop, W: Write>(
     ensures continues { Continues S.Store desk.old desk.new }
 {
     let mut journal = opened_journal(rt, given.get_str("journal"))?;
-    let answer = brought_to(rt, given, at, &mut journal, desk)?;
+    let minutes = given.get_one::<u32>("ahead").unwrap_or(MINUTES_AHEAD);
+    let mut terms = first_terms(desk.plan(), minutes)?;
+    let answer = brought_to(rt, given, at, &mut journal, desk, &mut terms)?;
     match answer {
         Some(Reply::Refused(refusal)) => tell(out, &Reply::Refused(refusal)),
-        Some(Reply::Accepted { .. }) | None => listen(rt, given, &mut journal, desk, out),
+        Some(Reply::Accepted { .. }) | None => {
+            listen(rt, given, &mut journal, desk, &mut terms, out)
+        }
     }
 }
 
@@ -106,7 +120,7 @@ where
     Connection<S>: Database<S>,
     ensures { IfOk result (λ ending. ending ≡ Ending.Refused) }
 {
-    let at = moment_if_given(given)?;
+    let at = moment_if_given(given, "at")?;
     match stored_desk::<S>(rt, value_of(given, "db")) {
         Ok(desk) => run_and_close(rt, given, at, desk, out),
         Err(none) => tell_no_desk(out, none),

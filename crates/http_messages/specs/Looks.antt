@@ -25,6 +25,8 @@ page_path page.ShowWorkstations = codes "/show/workstations"
 page_path page.ShowTrackers = codes "/show/trackers"
 page_path page.Started = codes "/started"
 page_path page.Health = codes "/health"
+page_path page.Forecast = codes "/forecast"
+page_path page.Board = codes "/board"
 
 -- the path goes on after this, and the bytes are what comes then, without its escapes
 abbrev pub GoesOnBy : List ℕ → List ℕ → List ℕ → Type 0

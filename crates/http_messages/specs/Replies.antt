@@ -32,3 +32,7 @@ reply status body = typed_reply (codes "application/json") status body
 -- a reply whose body is text
 abbrev pub text_reply : List ℕ → List ℕ
 text_reply body = typed_reply (codes "text/plain; charset=utf-8") status.Success body
+
+-- a reply whose body is a page of a browser
+abbrev pub page_reply : List ℕ → List ℕ
+page_reply body = typed_reply (codes "text/html; charset=utf-8") status.Success body

@@ -18,6 +18,6 @@ pub use asking::{
     read_exchange_in,
 };
 pub use looks::{Look, Page};
-pub use replies::{reply_bytes, text_reply_bytes};
+pub use replies::{page_reply_bytes, reply_bytes, text_reply_bytes};
 pub use statuses::{Method, Status};
 pub use wanting::{Wanted, read_wanted};

@@ -32,6 +32,10 @@ pub enum Page {
     Started,
     /// Whether a plan is loaded, and its clock.
     Health,
+    /// The forecast of the night.
+    Forecast,
+    /// The same as a page of a browser.
+    Board,
 }
 
 /// What a request looks at. Names and keys are bytes, which may be none.
@@ -79,6 +83,12 @@ fn page_of(path: &[u8]) -> Option<Page>
     }
     if path == "/health".as_bytes() {
         return Some(Page::Health);
+    }
+    if path == "/forecast".as_bytes() {
+        return Some(Page::Forecast);
+    }
+    if path == "/board".as_bytes() {
+        return Some(Page::Board);
     }
     None
 }

@@ -1,6 +1,6 @@
 // The bytes of a reply.
 ghost use Rattle.std.specs.Prelude.{◌≡◌, IfOk};
-ghost use Rattle.http_messages.specs.Replies.{reply, text_reply, typed_reply};
+ghost use Rattle.http_messages.specs.Replies.{page_reply, reply, text_reply, typed_reply};
 
 use crate::statuses::Status;
 use std::alloc::{AllocError, Global};
@@ -36,4 +36,11 @@ pub fn text_reply_bytes(alloc: Global, body: &[u8]) -> Result<Vec<u8>, AllocErro
     ensures { IfOk result (λ bytes. bytes.items ≡ text_reply body.now) }
 {
     typed_bytes(alloc, "text/plain; charset=utf-8", Status::Success, body)
+}
+
+/// A whole reply to a request that was accepted, whose body is a page of a browser. It fails for want of memory only.
+pub fn page_reply_bytes(alloc: Global, body: &[u8]) -> Result<Vec<u8>, AllocError>
+    ensures { IfOk result (λ bytes. bytes.items ≡ page_reply body.now) }
+{
+    typed_bytes(alloc, "text/html; charset=utf-8", Status::Success, body)
 }

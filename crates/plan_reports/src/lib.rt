@@ -10,7 +10,9 @@ mod rows;
 
 pub use desk_tables::{Desk, Occs, Plan, Ready, answer_alone, open_again, run_all};
 pub use laws::one_text;
-pub use made::{errors_made, late_made, occurrences_made, ready_made, show_made, why_made};
+pub use made::{
+    errors_made, late_made, loaded_plan, occurrences_made, ready_made, show_made, why_made,
+};
 pub use plan_shows::{Show, health_text, started_text};
 pub use reports::{
     ReportFault, error_report, late_report, occurrence_report, ready_report, show_report,

@@ -13,8 +13,8 @@ use plan_shows::{Field, Show, moment_text, report, shown, why, why_text};
 use sqlite::Alter;
 use std::alloc::Global;
 
-// The plan of a desk, if there is one to report of.
-fn loaded_plan<S: Alter + Drop>(desk: &Desk<S>) -> Result<&Plan, Refusal>
+/// The plan of a desk, if there is one to report of. Refused as the desk owes it.
+pub fn loaded_plan<S: Alter + Drop>(desk: &Desk<S>) -> Result<&Plan, Refusal>
     ensures plan { IfOk result (λ plan. plan.now.plan ≡ desk.now.plan) }
     ensures none_owed { IfOk result (λ plan. refusal_of desk.now.is_usable desk.now.plan ≡ None) }
     ensures refused { IfErr result (λ r. refusal_of desk.now.is_usable desk.now.plan ≡ Some r) }

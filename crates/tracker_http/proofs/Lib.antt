@@ -4,3 +4,4 @@ pub mod Unguarded
 pub mod Owed
 pub mod Breaking
 pub mod Ending
+pub mod Clock

@@ -1,3 +1,4 @@
+pub use Rattle.board_pages
 pub use Rattle.desk_journal
 pub use Rattle.http_messages
 pub use Rattle.plan_reports

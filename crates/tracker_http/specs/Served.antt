@@ -2,6 +2,7 @@
 use Rattle.std.specs.Prelude.{◌≡◌, ◌⊎◌, ℕ, ◌≤◌, List, [], ◌++◌, length, take, Option, IfSome, Result, Ok, Err}
 use Rattle.std.specs.Io.KnownBytes.{Keeps, Appends}
 use Rattle.sqlite.specs.Store.{Ghosts}
+use Rattle.board_pages.specs.forecast_texts.specs.plan_outlooks.specs.forecasting.specs.Known.{since_in}
 use Rattle.http_messages.specs.Looks.{AnswersWanted}
 use Rattle.http_messages.specs.Tests.{status_of as status_of_test}
 use Rattle.http_messages.specs.declared.asking.Asked.{Asked}
@@ -18,20 +19,21 @@ use Rattle.tracker_http.specs.Shown.{Shows}
 use Rattle.tracker_http.specs.declared.served.ServeFault.{ServeFault}
 use Rattle.tracker_http.specs.declared.served.ServeFault.TheVariants as fault
 use Rattle.tracker_http.specs.declared.served.TheConstants.{MOST_SERVED_BYTES}
+use Rattle.tracker_http.specs.declared.terms.Terms.{Terms}
 
 -- what the request in the input wants, where that is known
 abbrev pub IsWanted : Option (List ℕ) → Result Wanted Rejection → Type 0
 IsWanted known found = IfSome known (λ input. AnswersWanted MOST_SERVED_BYTES input found)
 
 -- what is written and what the journal takes: where the desk is asked, what it tells and both lines; else what is shown, or the first test that fails, and then nothing changes and no line is taken
-abbrev pub Writes : {S : Type 0} → Ghosts S → Option ℕ → Result Wanted Rejection → DeskState S → List ℕ → List ℕ → DeskState S → Type 0
-Writes g ahead (Ok (wanted.Asked a)) d output lines e = (x : Told) × Takes g ahead a d x e × (output ≡ reply_of x) × (lines ≡ request_lines d.plan a ++ answer_lines a x)
-Writes g ahead (Ok (wanted.Look l)) d output lines e = Shows l d output × (e ≡ d) × (lines ≡ [])
-Writes g ahead (Err test) d output lines e = (output ≡ reply_of (told.Fault (status_of_test test))) × (e ≡ d) × (lines ≡ [])
+abbrev pub Writes : {S : Type 0} → Ghosts S → Terms → Result Wanted Rejection → DeskState S → List ℕ → List ℕ → DeskState S → Type 0
+Writes g terms (Ok (wanted.Asked a)) d output lines e = (x : Told) × Takes g terms.ahead a d x e × (output ≡ reply_of x) × (lines ≡ request_lines d.plan a ++ answer_lines a x)
+Writes g terms (Ok (wanted.Look l)) d output lines e = Shows (since_in terms.known) l d output × (e ≡ d) × (lines ≡ [])
+Writes g terms (Err test) d output lines e = (output ≡ reply_of (told.Fault (status_of_test test))) × (e ≡ d) × (lines ≡ [])
 
 -- the input of a connection, where it is known, leads to this output and these lines, and from this desk to that one
-abbrev pub Serves : {S : Type 0} → Ghosts S → Option ℕ → Option (List ℕ) → DeskState S → List ℕ → List ℕ → DeskState S → Type 0
-Serves g ahead known d output lines e = (found : Result Wanted Rejection) × IsWanted known found × Writes g ahead found d output lines e
+abbrev pub Serves : {S : Type 0} → Ghosts S → Terms → Option (List ℕ) → DeskState S → List ℕ → List ℕ → DeskState S → Type 0
+Serves g terms known d output lines e = (found : Result Wanted Rejection) × IsWanted known found × Writes g terms found d output lines e
 
 -- a request that was wanted has no reply: nothing was asked, and the journal has a beginning of its line at most; or it acted as it was told, and its line is whole
 abbrev pub AskedBreaksOff : {S : Type 0} → Ghosts S → Option ℕ → Asked → DeskState S → DeskState S → Option (List ℕ) → Option (List ℕ) → Type 0
@@ -53,17 +55,17 @@ Unanswered g ahead known fault.Memory d e old new = BreaksOff g ahead known d e 
 Unanswered g ahead known fault.Journal d e old new = BreaksOff g ahead known d e old new
 
 -- an exchange leads to an output and to lines of which these are so
-abbrev pub Exchanges : {S : Type 0} → Ghosts S → Option ℕ → Option (List ℕ) → DeskState S → DeskState S → (List ℕ → Type 0) → (List ℕ → Type 0) → Type 0
-Exchanges g ahead known d e IsWritten AreTaken = (output : List ℕ) × (lines : List ℕ) × Serves g ahead known d output lines e × IsWritten output × AreTaken lines
+abbrev pub Exchanges : {S : Type 0} → Ghosts S → Terms → Option (List ℕ) → DeskState S → DeskState S → (List ℕ → Type 0) → (List ℕ → Type 0) → Type 0
+Exchanges g terms known d e IsWritten AreTaken = (output : List ℕ) × (lines : List ℕ) × Serves g terms known d output lines e × IsWritten output × AreTaken lines
 
 -- how an exchange ends: by what the reader held, if that is known, the desk before and after, the client's bytes before and after, and the journal's
-abbrev pub Ends : {S : Type 0} → {U : Type 0} → Ghosts S → Option ℕ → Result U ServeFault → Option (List ℕ) → DeskState S → DeskState S → Option (List ℕ) × Option (List ℕ) → Option (List ℕ) × Option (List ℕ) → Type 0
+abbrev pub Ends : {S : Type 0} → {U : Type 0} → Ghosts S → Terms → Result U ServeFault → Option (List ℕ) → DeskState S → DeskState S → Option (List ℕ) × Option (List ℕ) → Option (List ℕ) × Option (List ℕ) → Type 0
 -- the whole reply is written, and the lines are taken
-Ends g ahead (Ok _) known d e client journal = Exchanges g ahead known d e (Appends client.0 client.1) (Appends journal.0 journal.1)
+Ends g terms (Ok _) known d e client journal = Exchanges g terms known d e (Appends client.0 client.1) (Appends journal.0 journal.1)
 -- a beginning of the reply is written, the lines are taken, and the request acted as the reply says
-Ends g ahead (Err fault.Writer) known d e client journal = Exchanges g ahead known d e (AppendsBeginning client.0 client.1) (Appends journal.0 journal.1)
+Ends g terms (Err fault.Writer) known d e client journal = Exchanges g terms known d e (AppendsBeginning client.0 client.1) (Appends journal.0 journal.1)
 -- nothing is written
-Ends g ahead (Err f) known d e client journal = Keeps client.0 client.1 × Unanswered g ahead known f d e journal.0 journal.1
+Ends g terms (Err f) known d e client journal = Keeps client.0 client.1 × Unanswered g terms.ahead known f d e journal.0 journal.1
 
 -- whatever acted stands in the journal: where the desk isn't as it was, the line of the request that is wanted is there, whole
 abbrev pub Stands : {S : Type 0} → Option (List ℕ) → DeskState S → DeskState S → Option (List ℕ) → Option (List ℕ) → Type 0

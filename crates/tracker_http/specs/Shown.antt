@@ -1,6 +1,8 @@
 -- What a look is shown of a desk.
 use Rattle.std.specs.Prelude.{◌≡◌, ◌⊎◌, Bool, if◌then◌else◌, ℕ, List, Option, Some, None, unwrap_or}
-use Rattle.http_messages.specs.Replies.{reply, text_reply}
+use Rattle.board_pages.specs.Boards.{IsBoard}
+use Rattle.board_pages.specs.forecast_texts.specs.Texts.{IsForecastText}
+use Rattle.http_messages.specs.Replies.{page_reply, reply, text_reply}
 use Rattle.http_messages.specs.declared.looks.Look.{Look}
 use Rattle.http_messages.specs.declared.looks.Look.TheVariants as look
 use Rattle.http_messages.specs.declared.looks.Page.{Page}
@@ -69,17 +71,27 @@ ShowsShow s d output = ShowsText (desk_show_refusal_of d.is_usable s d.plan) (Is
 abbrev pub ShowsStarted : {S : Type 0} → Option Name → DeskState S → List ℕ → Type 0
 ShowsStarted w d output = ShowsValue (owed_by d.is_usable (started_refusal_of w d.plan)) (IsStartedText w d.plan) output
 
--- what is shown under one path alone
-abbrev pub ShowsPage : {S : Type 0} → Page → DeskState S → List ℕ → Type 0
-ShowsPage page.Occurrences d output = ShowsText (refusal_of d.is_usable d.plan) (IsOccurrenceReport d.plan) output
-ShowsPage page.Errors d output = ShowsText (refusal_of d.is_usable d.plan) (IsErrorReport d.plan) output
-ShowsPage page.Late d output = ShowsText (refusal_of d.is_usable d.plan) (IsLateReport d.plan) output
-ShowsPage page.ShowStarted d output = ShowsShow show.Started d output
-ShowsPage page.ShowResources d output = ShowsShow show.Resources d output
-ShowsPage page.ShowWorkstations d output = ShowsShow show.Workstations d output
-ShowsPage page.ShowTrackers d output = ShowsShow show.Trackers d output
-ShowsPage page.Started d output = ShowsStarted None d output
-ShowsPage page.Health d output = ShowsValue (owed_by d.is_usable None) (λ text. text ≡ compact_text (health_data d.plan)) output
+-- the text of a forecast from the plan's clock on, by what is known of starts
+abbrev pub ShowsForecast : {S : Type 0} → (OpKey → Option ℕ) → DeskState S → List ℕ → Type 0
+ShowsForecast starts d output = ShowsText (refusal_of d.is_usable d.plan) (IsForecastText d.plan starts d.plan.clock None) output
+
+-- the board's page of it
+abbrev pub ShowsBoard : {S : Type 0} → (OpKey → Option ℕ) → DeskState S → List ℕ → Type 0
+ShowsBoard starts d output = ShowsIn page_reply (refusal_of d.is_usable d.plan) (IsBoard d.plan starts d.plan.clock None) output
+
+-- what is shown under one path alone; the starts that are known are for forecasts
+abbrev pub ShowsPage : {S : Type 0} → (OpKey → Option ℕ) → Page → DeskState S → List ℕ → Type 0
+ShowsPage starts page.Occurrences d output = ShowsText (refusal_of d.is_usable d.plan) (IsOccurrenceReport d.plan) output
+ShowsPage starts page.Errors d output = ShowsText (refusal_of d.is_usable d.plan) (IsErrorReport d.plan) output
+ShowsPage starts page.Late d output = ShowsText (refusal_of d.is_usable d.plan) (IsLateReport d.plan) output
+ShowsPage starts page.ShowStarted d output = ShowsShow show.Started d output
+ShowsPage starts page.ShowResources d output = ShowsShow show.Resources d output
+ShowsPage starts page.ShowWorkstations d output = ShowsShow show.Workstations d output
+ShowsPage starts page.ShowTrackers d output = ShowsShow show.Trackers d output
+ShowsPage starts page.Started d output = ShowsStarted None d output
+ShowsPage starts page.Health d output = ShowsValue (owed_by d.is_usable None) (λ text. text ≡ compact_text (health_data d.plan)) output
+ShowsPage starts page.Forecast d output = ShowsForecast starts d output
+ShowsPage starts page.Board d output = ShowsBoard starts d output
 
 -- the report of what is ready on the workstation of this name; one that is no name is no plan's
 abbrev pub ShowsReady : {S : Type 0} → List ℕ → DeskState S → List ℕ → Type 0
@@ -106,9 +118,9 @@ ShowsOperations key d output =
     ⊎ (((c : OccKey) → ¬ NamesOccurrence key c) × (output ≡ refused_reply (refusal_or refusal.UnknownOccurrence d.is_usable d.plan)))
 
 -- what a look is shown
-abbrev pub Shows : {S : Type 0} → Look → DeskState S → List ℕ → Type 0
-Shows (look.Page p) d output = ShowsPage p d output
-Shows (look.Ready name) d output = ShowsReady name.items d output
-Shows (look.Why key) d output = ShowsWhy key.items d output
-Shows (look.ShowOperations key) d output = ShowsOperations key.items d output
-Shows (look.StartedOn name) d output = ShowsStartedOn name.items d output
+abbrev pub Shows : {S : Type 0} → (OpKey → Option ℕ) → Look → DeskState S → List ℕ → Type 0
+Shows starts (look.Page p) d output = ShowsPage starts p d output
+Shows starts (look.Ready name) d output = ShowsReady name.items d output
+Shows starts (look.Why key) d output = ShowsWhy key.items d output
+Shows starts (look.ShowOperations key) d output = ShowsOperations key.items d output
+Shows starts (look.StartedOn name) d output = ShowsStartedOn name.items d output

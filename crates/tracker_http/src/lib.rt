@@ -14,13 +14,16 @@
 
 mod asking;
 mod exchange;
+mod forecasts;
 mod journalling;
 mod lists;
 mod served;
 mod showing;
+mod terms;
 mod told;
 
 pub use asking::tell_within;
+pub use board_pages::{KnownStarts, board_made, forecast_made};
 pub use desk_journal::{Entry, Journal, JournalFault, read_entry};
 pub use exchange::{send, serve_one};
 pub use http_messages::Asked;
@@ -33,4 +36,5 @@ pub use plan_reports::{
 pub use request_json::{WireFault, read_operator};
 pub use served::{MOST_SERVED_BYTES, ServeFault, serve_wanted};
 pub use showing::look_shown;
+pub use terms::Terms;
 pub use told::Told;

@@ -14,6 +14,7 @@ ghost use Rattle.tracker_http.specs.Served.{AskedBreaksOff, Ends, Serves, Stands
 use super::exchange::send;
 use super::journalling::journalled;
 use super::showing::look_shown;
+use super::terms::Terms;
 use super::told::Told;
 use desk_journal::{Journal, JournalFault};
 use http_messages::{Asked, ExchangeFault, Wanted, read_wanted};
@@ -88,19 +89,19 @@ fn wanted_reply<R: Read, J: Write, S: Alter + Drop>(
     reader: &mut Watched<R>,
     journal: &mut Journal<J>,
     desk: &mut Desk<S>,
-    ahead: Option<u32>,
+    terms: &Terms,
 ) -> Result<Vec<u8>, ServeFault>
-    ensures made { IfOk result (λ reply. (lines : List ℕ) × Serves S.Store ahead (R.remaining (inner_of reader.old)) desk.old reply.items lines desk.new
+    ensures made { IfOk result (λ reply. (lines : List ℕ) × Serves S.Store terms.now (R.remaining (inner_of reader.old)) desk.old reply.items lines desk.new
         × Appends (entries_of J.contents journal.old) (entries_of J.contents journal.new) lines) }
-    ensures broken { IfErr result (λ fault. Unanswered S.Store ahead (R.remaining (inner_of reader.old)) fault desk.old desk.new (entries_of J.contents journal.old) (entries_of J.contents journal.new)) }
+    ensures broken { IfErr result (λ fault. Unanswered S.Store terms.now.ahead (R.remaining (inner_of reader.old)) fault desk.old desk.new (entries_of J.contents journal.old) (entries_of J.contents journal.new)) }
     ensures reader_fault { (result ≡ Err ServeFault.Reader) ↔ (failed_of reader.new ≡ true) }
     ensures tables { HoldsState (state_of desk.old) (state S.Store desk.old.conn).committed → IsClean (state S.Store desk.new.conn) → HoldsState (state_of desk.new) (state S.Store desk.new.conn).committed }
     ensures clean { IsClean (state S.Store desk.new.conn) → IsClean (state S.Store desk.old.conn) }
     ensures survives { Survives (state S.Store desk.old.conn) (state S.Store desk.new.conn) (λ _. ⊤) }
 {
     match read_wanted(alloc, reader, MOST_SERVED_BYTES) {
-        Ok(Ok(Wanted::Asked(asked))) => asked_reply(alloc, journal, desk, &asked, ahead),
-        Ok(Ok(Wanted::Look(look))) => Ok(look_shown(alloc, desk, &look)?),
+        Ok(Ok(Wanted::Asked(asked))) => asked_reply(alloc, journal, desk, &asked, terms.ahead),
+        Ok(Ok(Wanted::Look(look))) => Ok(look_shown(alloc, desk, &look, &terms.known)?),
         Ok(Err(test)) => Ok(Told::Fault(test.status()).reply(alloc)?),
         Err(ExchangeFault::Memory) => Err(ServeFault::Memory),
         Err(ExchangeFault::Reader) => Err(ServeFault::Reader),
@@ -122,9 +123,9 @@ fn sent<W: Write>(writer: &mut Watched<W>, reply: &[u8]) -> Result<(), ServeFaul
     }
 }
 
-/// Serves one request: as `serve_one` of `tracker_http`, but that it may look at something too, by which nothing changes; that a
-/// report or an operator's request is asked within the clock's guard, and between two lines of the journal, where one is kept;
-/// and that a body may have `MOST_SERVED_BYTES`. Faults of earlier calls of the reader and the writer are forgotten.
+/// Serves one request by these terms: as `serve_one` of `tracker_http`, but that it may look at something too, by which nothing
+/// changes; that a report or an operator's request is asked within the clock's guard, and between two lines of the journal,
+/// where one is kept; and that a body may have `MOST_SERVED_BYTES`. Faults of earlier calls of the reader and the writer are forgotten.
 ///
 /// `Reader` where the reader answered a fault: nothing is written, no line is taken, and nothing changes. `Writer` where the
 /// writer did: a beginning of the reply is written, and the request acted as the reply says. `Memory` for want of memory, and
@@ -138,9 +139,9 @@ pub fn serve_wanted<R: Read, W: Write, J: Write, S: Alter + Drop>(
     writer: &mut Watched<W>,
     journal: &mut Journal<J>,
     desk: &mut Desk<S>,
-    ahead: Option<u32>,
+    terms: &Terms,
 ) -> Result<(), ServeFault>
-    ensures ends { Ends S.Store ahead result (R.remaining (inner_of reader.old)) desk.old desk.new (W.contents (inner_of writer.old), W.contents (inner_of writer.new)) (entries_of J.contents journal.old, entries_of J.contents journal.new) }
+    ensures ends { Ends S.Store terms.now result (R.remaining (inner_of reader.old)) desk.old desk.new (W.contents (inner_of writer.old), W.contents (inner_of writer.new)) (entries_of J.contents journal.old, entries_of J.contents journal.new) }
     ensures stands { Stands (R.remaining (inner_of reader.old)) desk.old desk.new (entries_of J.contents journal.old) (entries_of J.contents journal.new) }
     ensures tables { HoldsState (state_of desk.old) (state S.Store desk.old.conn).committed → IsClean (state S.Store desk.new.conn) → HoldsState (state_of desk.new) (state S.Store desk.new.conn).committed }
     ensures clean { IsClean (state S.Store desk.new.conn) → IsClean (state S.Store desk.old.conn) }
@@ -149,6 +150,6 @@ pub fn serve_wanted<R: Read, W: Write, J: Write, S: Alter + Drop>(
     ensures writer_fault { (result ≡ Err ServeFault.Writer) ↔ (failed_of writer.new ≡ true) }
 {
     writer.clear();
-    let reply = wanted_reply(alloc, reader, journal, desk, ahead)?;
+    let reply = wanted_reply(alloc, reader, journal, desk, terms)?;
     sent(writer, &reply)
 }

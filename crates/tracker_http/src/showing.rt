@@ -1,5 +1,6 @@
 // What looks are shown: replies of the desk's plan, by which nothing changes.
 ghost use Rattle.std.specs.Prelude.{◌≡◌, Err, IfErr, IfOk, IsErr, MatchResult, None, option_map};
+ghost use Rattle.board_pages.specs.forecast_texts.specs.plan_outlooks.specs.forecasting.specs.Known.{since_in};
 ghost use Rattle.http_messages.specs.Replies.{text_reply};
 ghost use Rattle.plan_reports.specs.plan_shows.specs.Values.{health_data, started_refusal_of, IsStartedText};
 ghost use Rattle.plan_reports.specs.Reports.{IsOwed};
@@ -7,7 +8,9 @@ ghost use Rattle.plan_basics.specs.declared.Refusal.{Refusal};
 ghost use Rattle.serde_json.specs.Written.{compact_text};
 ghost use Rattle.tracker_http.specs.Shown.{owed_by, refusal_or, refused_reply, value_reply, Shows, ShowsOperations, ShowsPage, ShowsReady, ShowsShow, ShowsStartedOn, ShowsWhy};
 
+use super::forecasts::{board_shown, forecast_shown};
 use super::told::Told;
+use board_pages::KnownStarts;
 use http_messages::{Look, Page, Status, reply_bytes, text_reply_bytes};
 use plan_basics::{OccKey, OpKey, Refusal, WsName};
 use plan_records::Reply;
@@ -18,15 +21,15 @@ use plan_reports::{
 use sqlite::Alter;
 use std::alloc::{AllocError, Global};
 
-// The reply that tells a refusal.
-fn refused_shown(alloc: Global, refusal: Refusal) -> Result<Vec<u8>, AllocError>
+/// The reply that tells a refusal. It fails for want of memory only.
+pub fn refused_shown(alloc: Global, refusal: Refusal) -> Result<Vec<u8>, AllocError>
     ensures { IfOk result (λ output. output.items ≡ refused_reply refusal) }
 {
     Told::Answer(Reply::Refused(refusal)).reply(alloc)
 }
 
-// The reply that tells a text, or why there is none. It fails for want of memory only.
-fn text_shown(alloc: Global, made: Result<Vec<u8>, Refusal>) -> Result<Vec<u8>, AllocError>
+/// The reply that tells a text, or why there is none. It fails for want of memory only.
+pub fn text_shown(alloc: Global, made: Result<Vec<u8>, Refusal>) -> Result<Vec<u8>, AllocError>
     ensures shown { IfOk result (λ output. MatchResult made (λ text. output.items ≡ text_reply text.items) (λ r. output.items ≡ refused_reply r)) }
     ensures memory { made ≡ Err Refusal.Memory → IsErr result }
 {
@@ -106,8 +109,9 @@ fn page_shown<S: Alter + Drop>(
     alloc: Global,
     desk: &Desk<S>,
     page: Page,
+    known: &KnownStarts,
 ) -> Result<Vec<u8>, AllocError>
-    ensures { IfOk result (λ output. ShowsPage page desk.now output.items) }
+    ensures { IfOk result (λ output. ShowsPage (since_in known.now) page desk.now output.items) }
 {
     match page {
         Page::Occurrences => text_shown(alloc, occurrences_made(alloc, desk)),
@@ -119,6 +123,8 @@ fn page_shown<S: Alter + Drop>(
         Page::ShowTrackers => show_shown(alloc, desk, &Show::Trackers),
         Page::Started => value_shown(alloc, started_made(alloc, desk, None)),
         Page::Health => value_shown(alloc, health_made(alloc, desk)),
+        Page::Forecast => forecast_shown(alloc, desk, known),
+        Page::Board => board_shown(alloc, desk, known),
     }
 }
 
@@ -178,16 +184,17 @@ fn operations_shown<S: Alter + Drop>(
     }
 }
 
-/// What a look is shown. It fails for want of memory only.
+/// What a look is shown; forecasts take these known starts. It fails for want of memory only.
 pub fn look_shown<S: Alter + Drop>(
     alloc: Global,
     desk: &Desk<S>,
     look: &Look,
+    known: &KnownStarts,
 ) -> Result<Vec<u8>, AllocError>
-    ensures { IfOk result (λ output. Shows look.now desk.now output.items) }
+    ensures { IfOk result (λ output. Shows (since_in known.now) look.now desk.now output.items) }
 {
     match look {
-        Look::Page(page) => page_shown(alloc, desk, *page),
+        Look::Page(page) => page_shown(alloc, desk, *page, known),
         Look::Ready(name) => ready_shown(alloc, desk, name),
         Look::Why(key) => why_shown(alloc, desk, key),
         Look::ShowOperations(key) => operations_shown(alloc, desk, key),

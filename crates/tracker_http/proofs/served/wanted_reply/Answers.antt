@@ -17,7 +17,7 @@ returns-in-Ok-Ok-Asked-clause-made g c =
     let inner = w.field-0-0-is in
     let named = w.asked-is in
     let same : w.field-0 ≡ Ok (wanted.Asked w.asked) = cc in
-    serves_asked g.S.Store c.args.ahead known c.args.desk.now c.asked_reply.new.desk (entries_of g.J.Write.contents c.args.journal.now) (entries_of g.J.Write.contents c.asked_reply.new.journal)
+    serves_asked g.S.Store c.args.terms.now known c.args.desk.now c.asked_reply.new.desk (entries_of g.J.Write.contents c.args.journal.now) (entries_of g.J.Write.contents c.asked_reply.new.journal)
     w.asked (subst (IsWanted known) same w.ensures.answer) c.asked_reply.result c.asked_reply.ensures.made
 
 pub returns-in-Ok-Ok-Asked-clause-broken : goal.returns-in-Ok-Ok-Asked-clause-broken
@@ -28,7 +28,7 @@ returns-in-Ok-Ok-Asked-clause-broken g c =
     let inner = w.field-0-0-is in
     let named = w.asked-is in
     let same : w.field-0 ≡ Ok (wanted.Asked w.asked) = cc in
-    breaks_asked g.S.Store c.args.ahead known c.args.desk.now c.asked_reply.new.desk (entries_of g.J.Write.contents c.args.journal.now) (entries_of g.J.Write.contents c.asked_reply.new.journal)
+    breaks_asked g.S.Store c.args.terms.now known c.args.desk.now c.asked_reply.new.desk (entries_of g.J.Write.contents c.args.journal.now) (entries_of g.J.Write.contents c.asked_reply.new.journal)
     w.asked (subst (IsWanted known) same w.ensures.answer) c.asked_reply.result c.asked_reply.ensures.broken c.asked_reply.ensures.fault
 
 pub returns-in_ok-look_shown-in-Ok-Ok-Look-clause-made : goal.returns-in_ok-look_shown-in-Ok-Ok-Look-clause-made
@@ -39,7 +39,7 @@ returns-in_ok-look_shown-in-Ok-Ok-Look-clause-made g c =
     let inner = w.field-0-0-is in
     let named = w.look-is in
     let same : w.field-0 ≡ Ok (wanted.Look w.look) = cc in
-    serves_look g.S.Store c.args.ahead known c.args.desk.now (entries_of g.J.Write.contents c.args.journal.now)
+    serves_look g.S.Store c.args.terms.now known c.args.desk.now (entries_of g.J.Write.contents c.args.journal.now)
     w.look (subst (IsWanted known) same w.ensures.answer) c.in_ok-look_shown-in-Ok-Ok-Look.field-0.items c.in_ok-look_shown-in-Ok-Ok-Look.ensures
 
 pub returns-in_ok-reply-in-Ok-Err-clause-made : goal.returns-in_ok-reply-in-Ok-Err-clause-made
@@ -49,6 +49,6 @@ returns-in_ok-reply-in-Ok-Err-clause-made g c =
     let outer = w.field-0-is in
     let named = w.test-is in
     let same : w.field-0 ≡ Err w.test = cc in
-    serves_test g.S.Store c.args.ahead known c.args.desk.now (entries_of g.J.Write.contents c.args.journal.now)
+    serves_test g.S.Store c.args.terms.now known c.args.desk.now (entries_of g.J.Write.contents c.args.journal.now)
     w.test (subst (IsWanted known) same w.ensures.answer) c.in_ok-reply-in-Ok-Err.field-0.items
     (c.in_ok-reply-in-Ok-Err.ensures ∙ ap (λ (s : Status). reply_of (told.Fault s)) c.status.ensures)

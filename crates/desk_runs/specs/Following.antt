@@ -1,0 +1,28 @@
+-- What a desk that is served knows of starts.
+use Rattle.std.specs.Prelude.{◌≡◌, ℕ, Option, Some, None}
+use Rattle.desk_commands.specs.tracker_http.specs.declared.terms.Terms.{Terms}
+use Rattle.desk_commands.specs.tracker_http.specs.board_pages.specs.forecast_texts.specs.plan_outlooks.specs.forecasting.specs.Known.{AreOfGoing, since_in}
+use Rattle.desk_commands.specs.tracker_http.specs.board_pages.specs.forecast_texts.specs.plan_outlooks.specs.plan_forecast.specs.Starts.{AreStartsAfter}
+use Rattle.desk_commands.specs.tracker_http.specs.plan_reports.specs.desk_tables.specs.plan_model.specs.Plan.{Plan}
+use Rattle.plan_basics.specs.declared.keys.OpKey.{OpKey}
+
+-- the terms have an entry of what is going in this plan, and of nothing else
+abbrev pub AreTermsOf : Plan → Terms → Type 0
+AreTermsOf P terms = AreOfGoing P.contents terms.known
+
+-- so at opening, with a guard of so many minutes: since when anything is going isn't known
+pub record AreFirstTermsOf (P : Plan) (minutes : ℕ) (terms : Terms) : Type 0 where
+  pub ahead : terms.ahead ≡ Some minutes
+  pub going : AreTermsOf P terms
+  pub unknown : (o : OpKey) → since_in terms.known o ≡ None
+
+-- so later, with the same guard
+pub record AreStillTermsOf (P : Plan) (old new : Terms) : Type 0 where
+  pub ahead : new.ahead ≡ old.ahead
+  pub going : AreTermsOf P new
+
+-- they have followed a desk from one plan to the next: what became going by it is known since its clock, what goes on as before, and of all else nothing; the guard is the same
+pub record AreFollowed (before after : Plan) (old new : Terms) : Type 0 where
+  pub ahead : new.ahead ≡ old.ahead
+  pub going : AreTermsOf after new
+  pub starts : AreStartsAfter before after (since_in old.known) (since_in new.known)

@@ -1,0 +1,33 @@
+// The terms of a desk that is served: the clock's guard, and the starts that are known, which follow the desk's plan from one
+// exchange to the next.
+ghost use Rattle.std.specs.Prelude.{◌≡◌, IfErr, IfOk, OnErr, OnOk};
+ghost use Rattle.command_answers.specs.declared.endings.Fault.{Fault};
+ghost use Rattle.desk_commands.specs.tracker_http.specs.plan_reports.specs.desk_tables.specs.plan_model.specs.Plan.{Plan as PlanValue};
+ghost use Rattle.desk_runs.specs.Following.{AreFirstTermsOf, AreFollowed, AreTermsOf};
+
+use command_answers::Fault;
+use desk_commands::{KnownStarts, Plan, Terms};
+
+/// The terms of a desk that is opened with this plan, where a request's moment may be so many minutes after its clock: of what
+/// is going it isn't known since when. The fault is that of memory.
+pub fn first_terms(plan: &Plan, minutes: u32) -> Result<Terms, Fault>
+    ensures first { IfOk result (AreFirstTermsOf plan.now.plan minutes) }
+    ensures fault { IfErr result (λ fault. fault ≡ Fault.Memory) }
+{
+    let known = KnownStarts::of(plan)?;
+    Ok(Terms {
+        ahead: Some(minutes),
+        known,
+    })
+}
+
+/// Follows a desk's plan through an exchange, after which it is this: what became going by it did so at its clock. It looks at
+/// each operation once. The fault is that of memory; then all stays as it was, and is to be let go.
+pub fn follow(terms: &mut Terms, plan: &Plan) -> Result<(), Fault>
+    ensures followed { OnOk result ((P : PlanValue) → AreTermsOf P terms.old → AreFollowed P plan.now.plan terms.old terms.new) }
+    ensures unchanged { OnErr result (terms.new ≡ terms.old) }
+    ensures fault { IfErr result (λ fault. fault ≡ Fault.Memory) }
+{
+    terms.known.follow(plan)?;
+    Ok(())
+}
