@@ -41,12 +41,12 @@ pub fn moment_of(given: &ArgMatches) -> Result<i64, Fault>
     }
 }
 
-/// The moment that the words give, if they give one. `Moment` where what they give is none.
-pub fn moment_if_given(given: &ArgMatches) -> Result<Option<i64>, Fault>
-    ensures minute { IfOk result (IsMinuteGiven (first_value (found_of given.now) (codes "at"))) }
-    ensures fault { IfErr result (λ fault. (fault ≡ Fault.Moment) × IsNoMinuteGiven (first_value (found_of given.now) (codes "at"))) }
+/// The moment that the words give an option, if they give it one. `Moment` where what they give is none.
+pub fn moment_if_given(given: &ArgMatches, name: &str) -> Result<Option<i64>, Fault>
+    ensures minute { IfOk result (IsMinuteGiven (first_value (found_of given.now) name.now)) }
+    ensures fault { IfErr result (λ fault. (fault ≡ Fault.Moment) × IsNoMinuteGiven (first_value (found_of given.now) name.now)) }
 {
-    let Some(text) = given.get_str("at") else {
+    let Some(text) = given.get_str(name) else {
         return Ok(None);
     };
     match minute_of_text(text.as_bytes()) {

@@ -72,6 +72,40 @@ const MOMENT: OptionForm = OptionForm {
     need: Need::Always,
 };
 
+// The database of a desk, or in place of it a plan, for the commands that show either.
+const SHOWN_DATABASE: OptionForm = OptionForm {
+    name: "db",
+    value_name: "FILE",
+    help: "The database of the desk",
+    value: ValueForm::Text,
+    need: Need::InPlaceOf(&["plan"]),
+};
+
+const SHOWN_PLAN: OptionForm = OptionForm {
+    name: "plan",
+    value_name: "FILE",
+    help: "In place of --db: a plan, loaded into a desk in memory at the moment of --at",
+    value: ValueForm::Text,
+    need: Need::Together("at"),
+};
+
+const SHOWN_MOMENT: OptionForm = OptionForm {
+    name: "at",
+    value_name: "MOMENT",
+    help: "The moment, as 2024-03-01T22:00; the clock of the desk where it isn't given",
+    value: ValueForm::Text,
+    need: Need::Never,
+};
+
+// How far a forecast goes.
+const LAST_MOMENT: OptionForm = OptionForm {
+    name: "until",
+    value_name: "MOMENT",
+    help: "The moment up to which it goes, as 2024-03-02T06:00; as long as anything ends or begins where it isn't given",
+    value: ValueForm::Text,
+    need: Need::Never,
+};
+
 const PORT: OptionForm = OptionForm {
     name: "port",
     value_name: "PORT",
@@ -81,7 +115,7 @@ const PORT: OptionForm = OptionForm {
 };
 
 /// All commands.
-pub const COMMANDS: [CommandForm; 11] = [
+pub const COMMANDS: [CommandForm; 13] = [
     CommandForm {
         name: "validate",
         about: "Tells what is wrong with a plan, an extension or a request; nothing is stored",
@@ -216,20 +250,8 @@ pub const COMMANDS: [CommandForm; 11] = [
         about: "Tells why an operation doesn't go on at a moment, and what it waits for in the end",
         example: "Example: plandesk why --db night.db --op PAYROLL/2024-03-01T22:00/010",
         options: &[
-            OptionForm {
-                name: "db",
-                value_name: "FILE",
-                help: "The database of the desk",
-                value: ValueForm::Text,
-                need: Need::InPlaceOf(&["plan"]),
-            },
-            OptionForm {
-                name: "plan",
-                value_name: "FILE",
-                help: "In place of --db: a plan, loaded into a desk in memory at the moment of --at",
-                value: ValueForm::Text,
-                need: Need::Together("at"),
-            },
+            SHOWN_DATABASE,
+            SHOWN_PLAN,
             OptionForm {
                 name: "op",
                 value_name: "KEY",
@@ -237,14 +259,20 @@ pub const COMMANDS: [CommandForm; 11] = [
                 value: ValueForm::Text,
                 need: Need::Always,
             },
-            OptionForm {
-                name: "at",
-                value_name: "MOMENT",
-                help: "The moment, as 2024-03-01T22:00; the clock of the desk where it isn't given",
-                value: ValueForm::Text,
-                need: Need::Never,
-            },
+            SHOWN_MOMENT,
         ],
+    },
+    CommandForm {
+        name: "forecast",
+        about: "Tells how a plan will go: what begins and ends when, what will be late and what never begins; nothing is stored",
+        example: "Example: plandesk forecast --db night.db --until 2024-03-02T06:00",
+        options: &[SHOWN_DATABASE, SHOWN_PLAN, SHOWN_MOMENT, LAST_MOMENT],
+    },
+    CommandForm {
+        name: "board",
+        about: "Prints the page of a forecast, as HTML: whether the night holds, and who has to do what; nothing is stored",
+        example: "Example: plandesk board --db night.db",
+        options: &[SHOWN_DATABASE, SHOWN_PLAN, SHOWN_MOMENT, LAST_MOMENT],
     },
     CommandForm {
         name: "serve",

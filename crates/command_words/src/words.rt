@@ -8,7 +8,7 @@ use clap::{Arg, ArgAction, ArgMatches, Command};
 use std::alloc::{AllocError, Global};
 
 /// The version of the newest entry of CHANGELOG.md.
-const VERSION: &str = "0.19.0";
+const VERSION: &str = "0.20.0";
 
 /// The kinds of a report.
 const KINDS: [&str; 4] = ["ready", "occurrences", "errors", "late"];

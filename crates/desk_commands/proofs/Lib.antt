@@ -2,6 +2,7 @@ mod Besides
 mod Ended
 mod Loaded
 mod Played
+mod Prospected
 mod Reasoned
 mod Replayed
 mod Told

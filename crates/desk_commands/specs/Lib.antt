@@ -2,6 +2,7 @@ pub use Rattle.tracker_http
 pub mod Asked
 pub mod Besides
 pub mod Loads
+pub mod Prospects
 pub mod Replays
 pub mod Shown
 pub mod Turns

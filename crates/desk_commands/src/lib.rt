@@ -6,6 +6,7 @@ mod databases;
 mod loading;
 mod loads;
 mod playing;
+mod prospects;
 mod reasons;
 mod replaying;
 mod reports;
@@ -17,11 +18,14 @@ mod validating;
 pub use databases::{Database, DatabaseFile, close_desk, stored_desk};
 pub use loading::{check, load};
 pub use loads::load_into;
+pub use prospects::{Prospect, look_ahead};
 pub use reasons::why;
 pub use replaying::play;
 pub use reports::report;
 pub use requests::{extend, make};
 pub use shows::show;
 pub use ticks::{is_behind, tick};
-pub use tracker_http::{Desk, Journal, Plan, Reply, ServeFault, serve_one, serve_wanted};
+pub use tracker_http::{
+    Desk, Journal, KnownStarts, Plan, Reply, ServeFault, Terms, serve_one, serve_wanted,
+};
 pub use validating::validate;

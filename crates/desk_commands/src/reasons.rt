@@ -80,8 +80,8 @@ fn why_of_file<W: Write>(
     }
 }
 
-// The minute at which it is asked: the given one, or else that of the desk's clock.
-fn minute_of<S: Alter + Drop>(desk: &Desk<S>, minute: Option<i64>) -> i64
+/// The minute at which it is asked: the given one, or else that of the desk's clock.
+pub fn minute_of<S: Alter + Drop>(desk: &Desk<S>, minute: Option<i64>) -> i64
     ensures { result ≡ minute_asked minute desk.now.plan }
 {
     match minute {
@@ -141,7 +141,7 @@ where
     ensures fault { IfErr result (λ fault. ((fault ≡ Fault.Words) × (IsNoOperationText (text_given (found_of given.now) (codes "op")) ⊎ IsNoDeskGiven (first_value (found_of given.now) (codes "db")) (first_value (found_of given.now) (codes "plan")) (first_value (found_of given.now) (codes "at")))) ⊎ (((fault ≡ Fault.Moment) × IsNoMinuteGiven (first_value (found_of given.now) (codes "at"))) ⊎ IsOfSurroundings fault)) }
 {
     let key = operation_of(given)?;
-    let at = moment_if_given(given)?;
+    let at = moment_if_given(given, "at")?;
     match (given.get_str("db"), given.get_str("plan"), at) {
         (Some(path), _, at) => why_stored::<S, W>(rt, path, &key, at, out),
         (None, Some(path), Some(at)) => why_of_file(rt, path, at, &key, out),

@@ -1,6 +1,6 @@
-use Rattle.std.proofs.Common.{◌≡◌, FitsSigned, IfOk, rules, subst, to_z-of_z, w64}
+use Rattle.std.proofs.Common.{FitsSigned, IfOk, rules, subst, to_z-of_z, w64}
 use Rattle.plan_basics.specs.Watched.{inner_of}
-use Rattle.desk_commands.specs.Whys.{IsWhyShown, minute_asked}
+use Rattle.desk_commands.specs.Whys.{IsWhyShown}
 use Rattle.desk_commands.proofs.reasons.why_and_close.Goals as goal
 
 pub returns-clause-shown : goal.returns-clause-shown
