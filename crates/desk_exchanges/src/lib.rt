@@ -3,6 +3,7 @@
 //! tests alone: each public function plays one matter, and its error is the line or the row that goes otherwise.
 #![tactic(auto)]
 
+mod ahead;
 mod benches;
 mod exchanges;
 mod hostile;
@@ -18,6 +19,7 @@ mod scarce;
 mod served;
 mod wire_faults;
 
+pub use ahead::{known_starts, looks_ahead};
 pub use hostile::{
     a_moment_before_all_plans_and_a_name_in_small_letters, bodies_that_are_no_reports,
     heads_that_are_rejected, nothing_and_too_much,

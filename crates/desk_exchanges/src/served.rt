@@ -6,7 +6,7 @@ use plan_basics::Watched;
 use sqlite::Alter;
 use status_rules::{Mark, Status};
 use std::alloc::Global;
-use tracker_http::{Journal, ServeFault, serve_wanted};
+use tracker_http::{Journal, KnownStarts, ServeFault, Terms, serve_wanted};
 use wires::{Paper, START, accepted, fault, get, post, reply};
 
 /// The lines of the first report and of its answer.
@@ -17,20 +17,29 @@ const LINES: &str = concat!(
     "{\"reply\":{\"named\":[]},\"status\":200}\n",
 );
 
-// What came of a connection: its fault, if any, what was written, and what the journal took.
+/// What came of a connection: its fault, if any, what was written, and what the journal took.
 #[derive(Drop)]
-struct Outcome {
-    fault: Option<ServeFault>,
-    written: Vec<u8>,
-    lines: Vec<u8>,
+pub struct Outcome {
+    pub fault: Option<ServeFault>,
+    pub written: Vec<u8>,
+    pub lines: Vec<u8>,
 }
 
-// What comes of an input, where the journal's writer takes so many calls, and a day is as far ahead as a moment may be.
-fn served<S: Alter + Drop>(
+/// Terms by which a day is as far ahead as a moment may be, and no start is known.
+pub fn a_day_ahead(alloc: Global) -> Terms {
+    Terms {
+        ahead: Some(1440),
+        known: KnownStarts::none(alloc),
+    }
+}
+
+/// What comes of an input by these terms, where the journal's writer takes so many calls.
+pub fn served_by<S: Alter + Drop>(
     alloc: Global,
     bench: &mut Bench<S>,
     input: &str,
     calls: u32,
+    terms: &Terms,
 ) -> Outcome {
     let bytes = Vec::new(alloc);
     let paper = Paper { bytes, calls };
@@ -42,14 +51,7 @@ fn served<S: Alter + Drop>(
         calls: u32::MAX,
     });
     let held = &mut bench.held;
-    let ended = serve_wanted(
-        alloc,
-        &mut reader,
-        &mut writer,
-        &mut journal,
-        held,
-        Some(1440),
-    );
+    let ended = serve_wanted(alloc, &mut reader, &mut writer, &mut journal, held, terms);
     let lines = match journal {
         Journal::Kept(writer) => writer.into_inner().bytes,
         Journal::Absent => Vec::new(alloc),
@@ -59,6 +61,16 @@ fn served<S: Alter + Drop>(
         written: writer.into_inner().bytes,
         lines,
     }
+}
+
+// So by terms of a day.
+fn served<S: Alter + Drop>(
+    alloc: Global,
+    bench: &mut Bench<S>,
+    input: &str,
+    calls: u32,
+) -> Outcome {
+    served_by(alloc, bench, input, calls, &a_day_ahead(alloc))
 }
 
 // An input gets this reply, and the journal takes these lines.

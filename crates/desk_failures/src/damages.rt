@@ -1,11 +1,10 @@
 // Tables that are damaged: no desk is opened over them, and they stay as they are.
-use super::FAILED;
-use super::script::whole;
+use super::benches::opened;
+use super::script::after_all;
 use plan_basics::Refusal;
 use sqlite::types::ValueRef;
 use sqlite::{Alter, Connection};
-use std::alloc::{AllocError, Global};
-use tracker_http::Desk;
+use std::alloc::Global;
 use wires::tables_text;
 
 // Changes of the tables after the script, each of which damages them.
@@ -25,100 +24,125 @@ INSERT INTO amount SELECT app, ia, num, resource, 1 FROM need WHERE app = 'PAYRO
 DROP TABLE need
 UPDATE receipt SET number = 0";
 
-// The tables after a change by a text.
-fn changed<S: Alter + Drop>(mut conn: Connection<S>, sql: &str) -> Option<Connection<S>> {
-    match conn.execute_batch(sql) {
-        Ok(_) => Some(conn),
-        Err(_) => None,
+// What is done to the tables.
+#[derive(Clone, Copy)]
+enum Change<'t> {
+    Nothing,
+    /// A text is run.
+    Sql(&'t str),
+    /// The receipt gets a text of so many bytes.
+    Receipt(usize),
+}
+
+// What comes of opening a desk over tables.
+#[derive(Clone, Copy, PartialEq)]
+enum Found {
+    /// It is opened.
+    Opened,
+    /// They are damaged, and hold the same after that.
+    Damaged,
+    Otherwise,
+}
+
+// Whether the receipt gets a text of so many bytes.
+fn gets_text<S: Alter>(alloc: Global, conn: &mut Connection<S>, length: usize) -> bool {
+    match " ".repeat(alloc, length) {
+        Ok(text) => matches!(
+            conn.execute(
+                "UPDATE receipt SET request = ?1",
+                &[ValueRef::Blob(text.as_bytes())],
+            ),
+            Ok(1)
+        ),
+        Err(_) => false,
     }
 }
 
-// The tables with a receipt whose text has so many bytes.
-fn with_text<S: Alter + Drop>(
+// Whether the tables are changed so.
+fn is_changed<S: Alter>(alloc: Global, conn: &mut Connection<S>, change: Change<'_>) -> bool {
+    match change {
+        Change::Nothing => true,
+        Change::Sql(sql) => conn.execute_batch(sql).is_ok(),
+        Change::Receipt(length) => gets_text(alloc, conn, length),
+    }
+}
+
+// Whether tables hold this.
+fn holds<S: Alter + Drop>(alloc: Global, mut conn: Connection<S>, text: &[u8]) -> bool {
+    match tables_text(alloc, &mut conn) {
+        Ok(found) => found.as_slice() == text,
+        Err(_) => false,
+    }
+}
+
+// What comes of opening a desk over tables that are damaged, and held this before.
+fn found_damaged<S: Alter + Drop>(alloc: Global, conn: Connection<S>, text: &[u8]) -> Found {
+    if holds(alloc, conn, text) {
+        Found::Damaged
+    } else {
+        Found::Otherwise
+    }
+}
+
+// What comes of opening a desk over tables that hold this.
+fn came_of<S: Alter + Drop>(alloc: Global, conn: Connection<S>, text: &[u8]) -> Found {
+    match opened(alloc, conn) {
+        Ok(_) => Found::Opened,
+        Err((Refusal::Damaged, conn)) => found_damaged(alloc, conn, text),
+        Err(_) => Found::Otherwise,
+    }
+}
+
+// The same once they are changed.
+fn found_changed<S: Alter + Drop>(
     alloc: Global,
     mut conn: Connection<S>,
-    length: usize,
-) -> Option<Connection<S>> {
-    let text = " ".repeat(alloc, length).ok()?;
-    match conn.execute(
-        "UPDATE receipt SET request = ?1",
-        &[ValueRef::Blob(text.as_bytes())],
-    ) {
-        Ok(1) => Some(conn),
-        _ => None,
+    change: Change<'_>,
+) -> Found {
+    if !is_changed(alloc, &mut conn, change) {
+        return Found::Otherwise;
+    }
+    match tables_text(alloc, &mut conn) {
+        Ok(text) => came_of(alloc, conn, &text),
+        Err(_) => Found::Otherwise,
     }
 }
 
-// Whether no desk is opened over these tables, since they are damaged, and they hold the same after that.
-fn is_refused<S: Alter + Drop>(alloc: Global, mut conn: Connection<S>) -> Result<bool, AllocError> {
-    let before = tables_text(alloc, &mut conn)?;
-    match Desk::open(alloc, conn) {
-        Err((Refusal::Damaged, mut conn)) => Ok(tables_text(alloc, &mut conn)? == before),
-        _ => Ok(false),
+// The same of the tables after the script, which is made over a connection.
+fn found_over<S: Alter + Drop>(alloc: Global, conn: Connection<S>, change: Change<'_>) -> Found {
+    match after_all(alloc, conn) {
+        Some(conn) => found_changed(alloc, conn, change),
+        None => Found::Otherwise,
     }
 }
 
-// Whether these tables are damaged.
-fn is_damaged<S: Alter + Drop>(alloc: Global, tables: Option<Connection<S>>) -> bool {
-    match tables {
-        Some(conn) => matches!(is_refused(alloc, conn), Ok(true)),
-        None => false,
-    }
-}
-
-// Whether a desk is opened over these tables.
-fn is_opened<S: Alter + Drop>(alloc: Global, tables: Option<Connection<S>>) -> bool {
-    match tables {
-        Some(conn) => Desk::open(alloc, conn).is_ok(),
-        None => false,
-    }
-}
-
-// Whether the tables after the script are damaged once a text has changed them.
-fn damages(alloc: Global, sql: &str) -> bool {
-    match whole(alloc) {
-        Some(conn) => is_damaged(alloc, changed(conn, sql)),
-        None => false,
+// The same of the tables after the script in memory.
+fn found_after(alloc: Global, change: Change<'_>) -> Found {
+    match Connection::open_in_memory(alloc) {
+        Ok(conn) => found_over(alloc, conn, change),
+        Err(_) => Found::Otherwise,
     }
 }
 
 // Each change of a text damages the tables.
 fn each_damages(alloc: Global) -> Result<(), &'static str> {
     for sql in DAMAGES.lines() {
-        if !damages(alloc, sql) {
+        if found_after(alloc, Change::Sql(sql)) != Found::Damaged {
             return Err(sql);
         }
     }
     Ok(())
 }
 
-// Whether a desk is opened over the tables after the script.
-fn is_whole_opened(alloc: Global) -> bool {
-    is_opened(alloc, whole(alloc))
-}
-
-// The same with a receipt whose text has so many bytes.
-fn is_text_opened(alloc: Global, length: usize) -> bool {
-    match whole(alloc) {
-        Some(conn) => is_opened(alloc, with_text(alloc, conn, length)),
-        None => false,
-    }
-}
-
-// Whether they are damaged with such a receipt.
-fn is_text_damaged(alloc: Global, length: usize) -> bool {
-    match whole(alloc) {
-        Some(conn) => is_damaged(alloc, with_text(alloc, conn, length)),
-        None => false,
-    }
-}
-
 /// Sixteen damages; and the tables without one, and with the longest text of a receipt, are opened.
 pub fn damaged_tables_are_not_opened(alloc: Global) -> Result<(), &'static str> {
-    if !is_whole_opened(alloc) || !is_text_opened(alloc, 65_536) {
-        return Err(FAILED);
+    if found_after(alloc, Change::Nothing) != Found::Opened {
+        return Err("the tables after the script");
     }
-    if !is_text_damaged(alloc, 65_537) {
+    if found_after(alloc, Change::Receipt(65_536)) != Found::Opened {
+        return Err("a receipt's text of 65536 bytes");
+    }
+    if found_after(alloc, Change::Receipt(65_537)) != Found::Damaged {
         return Err("a receipt's text of 65537 bytes");
     }
     each_damages(alloc)

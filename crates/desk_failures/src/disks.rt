@@ -68,62 +68,6 @@ impl End {
     };
 }
 
-// A file with these bytes, which passes each call on.
-fn sound_file(alloc: Global, bytes: &[u8]) -> io::Result<Fuse<Memory>> {
-    let mut file = Fuse::new(Memory::new(alloc), u64::MAX);
-    if file.may_be_used() {
-        file.write_at(0, bytes)?;
-    }
-    Ok(file)
-}
-
-// The files as they stand, on a disk that works.
-fn copied(alloc: Global, files: &FusedFiles) -> io::Result<FusedFiles> {
-    Ok(Files {
-        log: sound_file(alloc, files.log.inner().bytes())?,
-        db: sound_file(alloc, files.db.inner().bytes())?,
-    })
-}
-
-/// The connection to these files; or the files, where it can't be had.
-pub fn connected(alloc: Global, files: FusedFiles) -> Result<Connection<FusedStore>, FusedFiles> {
-    connected_so(alloc, files, Options::new(7))
-}
-
-/// The same, of which each transaction first copies what the log holds into the database's file.
-pub fn connected_copying(
-    alloc: Global,
-    files: FusedFiles,
-) -> Result<Connection<FusedStore>, FusedFiles> {
-    let mut options = Options::new(7);
-    options.checkpoint_frames = 1;
-    connected_so(alloc, files, options)
-}
-
-// The connection to these files with these options.
-fn connected_so(
-    alloc: Global,
-    files: FusedFiles,
-    options: Options,
-) -> Result<Connection<FusedStore>, FusedFiles> {
-    if !files.log.may_be_used() || !files.db.may_be_used() {
-        return Err(files);
-    }
-    match Connection::open_files(alloc, files, options) {
-        Ok(conn) => Ok(conn),
-        Err((_, left)) => Err(left.into_files()),
-    }
-}
-
-/// The connection to two files without a byte; or the files, where they stop before it is there.
-pub fn begun(alloc: Global, stop: Stop) -> Result<Connection<FusedStore>, FusedFiles> {
-    let files = Files {
-        log: Fuse::new(Memory::new(alloc), stop.calls_of_log()),
-        db: Fuse::new(Memory::new(alloc), stop.calls_of_db()),
-    };
-    connected(alloc, files)
-}
-
 /// What stands in the two files.
 #[derive(Drop)]
 pub struct Bytes {
@@ -131,12 +75,13 @@ pub struct Bytes {
     db: Vec<u8>,
 }
 
-/// A copy of what stands in these files.
-pub fn bytes_of(alloc: Global, files: &FusedFiles) -> Result<Bytes, AllocError> {
-    Ok(Bytes {
-        log: files.log.inner().bytes().to_vec(alloc)?,
-        db: files.db.inner().bytes().to_vec(alloc)?,
-    })
+// A file with these bytes, which passes each call on.
+fn sound_file(alloc: Global, bytes: &[u8]) -> io::Result<Fuse<Memory>> {
+    let mut file = Fuse::new(Memory::new(alloc), u64::MAX);
+    if file.may_be_used() {
+        file.write_at(0, bytes)?;
+    }
+    Ok(file)
 }
 
 // A file in which these bytes stand, synced.
@@ -151,7 +96,31 @@ fn synced_file(alloc: Global, bytes: &[u8]) -> io::Result<Memory> {
     Ok(file)
 }
 
-/// Two files in which this stands, and which stop so.
+// A file after the stop, where it may lose what wasn't synced.
+fn end_file(file: &mut Fuse<Memory>, loses: bool) {
+    if loses {
+        file.crash();
+    }
+}
+
+// How a database is opened.
+fn options(copies: bool) -> Options {
+    let mut options = Options::new(7);
+    if copies {
+        options.checkpoint_frames = 1;
+    }
+    options
+}
+
+// Two files without a byte, which stop so.
+fn blank_files(alloc: Global, stop: Stop) -> FusedFiles {
+    Files {
+        log: Fuse::new(Memory::new(alloc), stop.calls_of_log()),
+        db: Fuse::new(Memory::new(alloc), stop.calls_of_db()),
+    }
+}
+
+/// Two files in which this stands, synced, and which stop so.
 pub fn files_with(alloc: Global, bytes: &Bytes, stop: Stop) -> io::Result<FusedFiles> {
     Ok(Files {
         log: Fuse::new(synced_file(alloc, &bytes.log)?, stop.calls_of_log()),
@@ -159,16 +128,46 @@ pub fn files_with(alloc: Global, bytes: &Bytes, stop: Stop) -> io::Result<FusedF
     })
 }
 
+/// The connection to these files, of which each transaction first copies what the log holds into the database's file, or
+/// doesn't; or the files, where it can't be had.
+pub fn connected(
+    alloc: Global,
+    files: FusedFiles,
+    copies: bool,
+) -> Result<Connection<FusedStore>, FusedFiles> {
+    if !files.log.may_be_used() || !files.db.may_be_used() {
+        return Err(files);
+    }
+    match Connection::open_files(alloc, files, options(copies)) {
+        Ok(conn) => Ok(conn),
+        Err((_, left)) => Err(left.into_files()),
+    }
+}
+
 /// The files of a connection, without a further call of the disk.
 pub fn files_of(conn: Connection<FusedStore>) -> FusedFiles {
     conn.into_store().close()
 }
 
-// A file after the stop, where it may lose what wasn't synced.
-fn end_file(file: &mut Fuse<Memory>, loses: bool) {
-    if loses {
-        file.crash();
-    }
+/// A copy of what stands in these files.
+pub fn bytes_of(alloc: Global, files: &FusedFiles) -> Result<Bytes, AllocError> {
+    Ok(Bytes {
+        log: files.log.inner().bytes().to_vec(alloc)?,
+        db: files.db.inner().bytes().to_vec(alloc)?,
+    })
+}
+
+/// The connection to two files without a byte; or the files, where they stop before it is there.
+pub fn begun(alloc: Global, stop: Stop) -> Result<Connection<FusedStore>, FusedFiles> {
+    connected(alloc, blank_files(alloc, stop), false)
+}
+
+// The files as they stand, on a disk that works.
+fn copied(alloc: Global, files: &FusedFiles) -> io::Result<FusedFiles> {
+    Ok(Files {
+        log: sound_file(alloc, files.log.inner().bytes())?,
+        db: sound_file(alloc, files.db.inner().bytes())?,
+    })
 }
 
 /// The connection to what was left of the files, on a disk that works.
@@ -180,7 +179,7 @@ pub fn connected_again(
     end_file(&mut files.log, end.log_loses);
     end_file(&mut files.db, end.db_loses);
     match copied(alloc, &files) {
-        Ok(copy) => connected(alloc, copy).ok(),
+        Ok(copy) => connected(alloc, copy, false).ok(),
         Err(_) => None,
     }
 }

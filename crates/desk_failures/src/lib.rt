@@ -4,6 +4,7 @@
 //! alone: each public function plays one matter, and its error is what goes otherwise.
 #![tactic(auto)]
 
+mod benches;
 mod damages;
 mod disks;
 mod kinds;

@@ -1,7 +1,8 @@
 // A request over two files that stop in its midst, or in the opening before it: what is found when a desk is opened over what the
 // stop left, and what the tables hold once the request is made again.
+use super::benches::{Bench, closed, opened};
 use super::disks::{
-    Bytes, End, FusedFiles, Stop, bytes_of, connected_again, connected_copying, files_of,
+    Bytes, End, FusedFiles, FusedStore, Stop, bytes_of, connected, connected_again, files_of,
     files_with,
 };
 use super::outcomes::StopOutcome;
@@ -10,7 +11,6 @@ use super::script::{Told, make};
 use plan_basics::Refusal;
 use sqlite::{Alter, Connection};
 use std::alloc::Global;
-use tracker_http::Desk;
 use wires::tables_text;
 
 /// The request of a line, over files in which this stands, and what the tables hold before it and after it; and whether the
@@ -75,12 +75,22 @@ impl Case<'_> {
 }
 
 // How far the request of a line comes at a desk.
-fn reached_at<S: Alter + Drop>(alloc: Global, desk: &mut Desk<S>, line: &str) -> Reached {
-    match make(alloc, desk, line) {
+fn reached_at<S: Alter + Drop>(alloc: Global, bench: &mut Bench<S>, line: &str) -> Reached {
+    match make(alloc, bench, line) {
         Told::Done => Reached::Answered,
         Told::Store => Reached::Stopped,
         _ => Reached::Otherwise,
     }
+}
+
+// How far it comes at a desk, and the desk's connection.
+fn reached_and_closed<S: Alter + Drop>(
+    alloc: Global,
+    mut bench: Bench<S>,
+    line: &str,
+) -> (Connection<S>, Reached) {
+    let reached = reached_at(alloc, &mut bench, line);
+    (closed(bench), reached)
 }
 
 // How far it comes over a connection, which comes back.
@@ -89,26 +99,26 @@ fn reached_over<S: Alter + Drop>(
     conn: Connection<S>,
     line: &str,
 ) -> (Connection<S>, Reached) {
-    match Desk::open(alloc, conn) {
-        Ok(mut desk) => {
-            let reached = reached_at(alloc, &mut desk, line);
-            (desk.close(), reached)
-        }
+    match opened(alloc, conn) {
+        Ok(bench) => reached_and_closed(alloc, bench, line),
         Err((Refusal::Store, conn)) => (conn, Reached::NoDesk),
         Err((_, conn)) => (conn, Reached::Otherwise),
     }
 }
 
+// How far it comes over a connection to files, and what it leaves of them.
+fn left_over(alloc: Global, conn: Connection<FusedStore>, line: &str) -> Left {
+    let (conn, reached) = reached_over(alloc, conn, line);
+    Left {
+        reached,
+        files: files_of(conn),
+    }
+}
+
 // How far it comes over files, and what it leaves of them.
 fn left_on(alloc: Global, files: FusedFiles, line: &str) -> Left {
-    match connected_copying(alloc, files) {
-        Ok(conn) => {
-            let (conn, reached) = reached_over(alloc, conn, line);
-            Left {
-                reached,
-                files: files_of(conn),
-            }
-        }
+    match connected(alloc, files, true) {
+        Ok(conn) => left_over(alloc, conn, line),
         Err(files) => Left {
             reached: Reached::NoDesk,
             files,
@@ -124,19 +134,45 @@ fn left_by(alloc: Global, case: &Case<'_>, stop: Stop) -> Option<Left> {
     }
 }
 
-// What the tables of a connection hold once a case's request is made again at a desk that is opened over them.
+// What the tables of a connection hold.
+fn text_of<S: Alter + Drop>(alloc: Global, mut conn: Connection<S>) -> Option<Vec<u8>> {
+    tables_text(alloc, &mut conn).ok()
+}
+
+// What the tables hold once a case's request is made again at a desk.
+fn text_made_again<S: Alter + Drop>(
+    alloc: Global,
+    case: &Case<'_>,
+    mut bench: Bench<S>,
+) -> Option<Vec<u8>> {
+    if case.may_be_told(make(alloc, &mut bench, case.line)) {
+        text_of(alloc, closed(bench))
+    } else {
+        None
+    }
+}
+
+// The same at a desk that is opened over a connection.
 fn text_again<S: Alter + Drop>(
     alloc: Global,
     case: &Case<'_>,
     conn: Connection<S>,
 ) -> Option<Vec<u8>> {
-    let mut desk = Desk::open(alloc, conn).ok()?;
-    let told = make(alloc, &mut desk, case.line);
-    let mut conn = desk.close();
-    if case.may_be_told(told) {
-        tables_text(alloc, &mut conn).ok()
-    } else {
-        None
+    match opened(alloc, conn) {
+        Ok(bench) => text_made_again(alloc, case, bench),
+        Err(_) => None,
+    }
+}
+
+// What comes of a case that came so far, by what the tables hold once its request is made again.
+fn acted_once(case: &Case<'_>, text: Option<Vec<u8>>, reached: Reached) -> StopOutcome {
+    match text {
+        Some(text) if text.as_slice() != case.after => {
+            StopOutcome::Otherwise("a request that is made again after a stop doesn't act once")
+        }
+        Some(_) if reached == Reached::Answered => StopOutcome::NoStop,
+        Some(_) => StopOutcome::Recovered,
+        None => StopOutcome::Otherwise("a request isn't answered once it is made again"),
     }
 }
 
@@ -148,23 +184,17 @@ fn recovered<S: Alter + Drop>(
     reached: Reached,
 ) -> StopOutcome {
     match tables_text(alloc, &mut conn) {
-        Ok(text) if case.may_be_found(text.as_slice(), reached) => {}
-        _ => return StopOutcome::Otherwise("a stopped request leaves other tables"),
-    }
-    match text_again(alloc, case, conn) {
-        Some(text) if text.as_slice() != case.after => {
-            StopOutcome::Otherwise("a request that is made again after a stop doesn't act once")
+        Ok(text) if case.may_be_found(text.as_slice(), reached) => {
+            acted_once(case, text_again(alloc, case, conn), reached)
         }
-        Some(_) if reached == Reached::Answered => StopOutcome::NoStop,
-        Some(_) => StopOutcome::Recovered,
-        None => StopOutcome::Otherwise("a request isn't answered once it is made again"),
+        _ => StopOutcome::Otherwise("a stopped request leaves other tables"),
     }
 }
 
 // What comes of a case that left this, where its files stand so afterwards.
 fn recovered_from(alloc: Global, case: &Case<'_>, left: Left, end: End) -> StopOutcome {
-    let reached = left.reached;
-    match connected_again(alloc, left.files, end) {
+    let Left { reached, files } = left;
+    match connected_again(alloc, files, end) {
         Some(conn) => recovered(alloc, case, conn, reached),
         None => StopOutcome::Otherwise("what a stopped request left can't be opened"),
     }

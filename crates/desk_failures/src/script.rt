@@ -1,11 +1,11 @@
 // The script that is stopped: the tables are made, a night is loaded, a tracker reports four times, and the plan is extended
 // twice. Each time an occurrence comes in that is complete at once, as its only operation reports nothing and comes after one
 // that is complete; the second time the first of them leaves, with its dependency and its need of two.
+use super::benches::{Bench, closed, created, opened, served};
 use plan_basics::Watched;
-use sqlite::{Alter, Connection, MemStore};
+use sqlite::{Alter, Connection};
 use std::alloc::Global;
-use tracker_http::{Desk, serve_one};
-use wires::{After, NIGHT, Paper, Pieces, post, reply, tables_text};
+use wires::{NIGHT, Paper, post, reply, tables_text};
 
 /// The steps after the making of the tables, a line each: where a request is sent, and its body; and what its reply says. NIGHT
 /// stands for the body that loads the night at 21:00. A step that an operator asks may be asked again, once it is carried out:
@@ -33,17 +33,16 @@ fn request_of<'a>(alloc: Global, line: &'a str) -> Option<(String, &'a str)> {
 }
 
 /// What a desk writes for a request; nothing where the exchange fails.
-pub fn written<S: Alter + Drop>(alloc: Global, desk: &mut Desk<S>, input: &str) -> Option<Vec<u8>> {
-    let mut reader = Watched::new(Pieces {
-        left: input.as_bytes(),
-        most: 8192,
-        after: After::End,
-    });
+pub fn written<S: Alter + Drop>(
+    alloc: Global,
+    bench: &mut Bench<S>,
+    input: &str,
+) -> Option<Vec<u8>> {
     let mut writer = Watched::new(Paper {
         bytes: Vec::new(alloc),
         calls: u32::MAX,
     });
-    match serve_one(alloc, &mut reader, &mut writer, desk) {
+    match served(alloc, bench, input, &mut writer) {
         Ok(()) => Some(writer.into_inner().bytes),
         Err(_) => None,
     }
@@ -95,14 +94,27 @@ fn told_by(alloc: Global, told: &str, bytes: &[u8]) -> Told {
 }
 
 /// How a desk answers the request of a line.
-pub fn make<S: Alter + Drop>(alloc: Global, desk: &mut Desk<S>, line: &str) -> Told {
+pub fn make<S: Alter + Drop>(alloc: Global, bench: &mut Bench<S>, line: &str) -> Told {
     let (input, told) = match request_of(alloc, line) {
         Some(request) => request,
         None => return Told::Otherwise,
     };
-    match written(alloc, desk, &input) {
+    match written(alloc, bench, &input) {
         Some(bytes) => told_by(alloc, told, &bytes),
         None => Told::Otherwise,
+    }
+}
+
+/// The connection of a desk once it has answered the request of a line as the line says.
+pub fn once_done<S: Alter + Drop>(
+    alloc: Global,
+    mut bench: Bench<S>,
+    line: &str,
+) -> Option<Connection<S>> {
+    if make(alloc, &mut bench, line) == Told::Done {
+        Some(closed(bench))
+    } else {
+        None
     }
 }
 
@@ -112,25 +124,22 @@ fn after_line<S: Alter + Drop>(
     conn: Connection<S>,
     line: &str,
 ) -> Option<Connection<S>> {
-    let mut desk = Desk::open(alloc, conn).ok()?;
-    let told = make(alloc, &mut desk, line);
-    if told == Told::Done {
-        Some(desk.close())
-    } else {
-        None
+    match opened(alloc, conn) {
+        Ok(bench) => once_done(alloc, bench, line),
+        Err(_) => None,
     }
 }
 
 /// The connection in which the tables of a desk are made.
 pub fn with_tables<S: Alter + Drop>(alloc: Global, conn: Connection<S>) -> Option<Connection<S>> {
-    match Desk::create(alloc, conn) {
-        Ok(desk) => Some(desk.close()),
+    match created(alloc, conn) {
+        Ok(bench) => Some(closed(bench)),
         Err(_) => None,
     }
 }
 
-// The connection to the tables after all steps, which are made over it.
-fn after_all<S: Alter + Drop>(alloc: Global, conn: Connection<S>) -> Option<Connection<S>> {
+/// The connection to the tables after all steps, which are made over it.
+pub fn after_all<S: Alter + Drop>(alloc: Global, conn: Connection<S>) -> Option<Connection<S>> {
     let mut conn = with_tables(alloc, conn)?;
     for line in SCRIPT.lines() {
         conn = after_line(alloc, conn, line)?;
@@ -138,12 +147,45 @@ fn after_all<S: Alter + Drop>(alloc: Global, conn: Connection<S>) -> Option<Conn
     Some(conn)
 }
 
-/// The connection to the tables after all steps.
-pub fn whole(alloc: Global) -> Option<Connection<MemStore>> {
-    match Connection::open_in_memory(alloc) {
-        Ok(conn) => after_all(alloc, conn),
-        Err(_) => None,
+// The connection, once the text of its tables is added.
+fn added<S: Alter + Drop>(
+    alloc: Global,
+    texts: &mut Vec<Vec<u8>>,
+    mut conn: Connection<S>,
+) -> Option<Connection<S>> {
+    let is_added = match tables_text(alloc, &mut conn) {
+        Ok(text) => texts.push(text).is_ok(),
+        Err(_) => false,
+    };
+    if is_added { Some(conn) } else { None }
+}
+
+// The connection after the request of a line at a desk over it, once the text of its tables is added.
+fn added_after<S: Alter + Drop>(
+    alloc: Global,
+    texts: &mut Vec<Vec<u8>>,
+    conn: Connection<S>,
+    line: &str,
+) -> Option<Connection<S>> {
+    match after_line(alloc, conn, line) {
+        Some(conn) => added(alloc, texts, conn),
+        None => None,
     }
+}
+
+// Adds the text of the tables of a connection, and that after the request of each line at a desk over it; whether each line is
+// answered as it says.
+fn add_all<S: Alter + Drop>(
+    alloc: Global,
+    texts: &mut Vec<Vec<u8>>,
+    conn: Connection<S>,
+    lines: &str,
+) -> Option<()> {
+    let mut conn = added(alloc, texts, conn)?;
+    for line in lines.lines() {
+        conn = added_after(alloc, texts, conn, line)?;
+    }
+    Some(())
 }
 
 // The text of the tables once they are made over a connection, and after the request of each line at a desk over it.
@@ -153,12 +195,7 @@ fn texts_over<S: Alter + Drop>(
     lines: &str,
 ) -> Option<Vec<Vec<u8>>> {
     let mut texts = Vec::new(alloc);
-    let mut conn = with_tables(alloc, conn)?;
-    texts.push(tables_text(alloc, &mut conn).ok()?).ok()?;
-    for line in lines.lines() {
-        conn = after_line(alloc, conn, line)?;
-        texts.push(tables_text(alloc, &mut conn).ok()?).ok()?;
-    }
+    add_all(alloc, &mut texts, with_tables(alloc, conn)?, lines)?;
     Some(texts)
 }
 

@@ -123,6 +123,16 @@ fn moments_beyond_the_limit(rt: HostRuntime) -> Result<(), &'static str> {
 }
 
 #[test]
+fn looks_ahead(rt: HostRuntime) -> Result<(), &'static str> {
+    desk_exchanges::looks_ahead(rt.alloc())
+}
+
+#[test]
+fn known_starts(rt: HostRuntime) -> Result<(), &'static str> {
+    desk_exchanges::known_starts(rt.alloc())
+}
+
+#[test]
 fn looks_at_a_loaded_plan(rt: HostRuntime) -> Result<(), &'static str> {
     desk_exchanges::looks_at_a_loaded_plan(rt.alloc())
 }

@@ -51,6 +51,11 @@ fn sessions(rt: HostRuntime) -> Result<(), &'static str> {
 }
 
 #[test]
+fn the_night_ahead(rt: HostRuntime) -> Result<(), &'static str> {
+    super::sessions::the_night_ahead(&rt)
+}
+
+#[test]
 fn a_silent_client_is_let_go(rt: HostRuntime) -> Result<(), &'static str> {
     super::sessions::a_silent_client_is_let_go(&rt)
 }

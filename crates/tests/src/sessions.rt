@@ -1,8 +1,10 @@
 // Sessions: runs of the program's commands over the files of a folder, and connections to a desk, with what comes of them.
 // Each public function plays one matter, and its error is the line or the row that goes otherwise.
 
+mod ahead;
 mod answers;
 mod connections;
+mod ends;
 mod faults;
 mod files;
 mod first_file;
@@ -15,6 +17,7 @@ mod scripts;
 mod serving;
 mod streams;
 
+pub use ahead::the_night_ahead;
 pub use answers::texts_and_their_answers;
 pub use helps::each_command_tells_its_help;
 pub use plays::{

@@ -1,10 +1,11 @@
 // What a tracker sends over HTTP, and what it gets.
+use crate::benches::{Bench, served};
 use plan_basics::Watched;
 use sqlite::Alter;
 use std::alloc::Global;
 use taken_memory::MemoryOutcome;
-use tracker_http::{Desk, WireFault, serve_one};
-use wires::{After, Pieces, get, is_written, post, reply};
+use tracker_http::WireFault;
+use wires::{get, is_written, post, reply};
 
 /// A request, its reply, and the one that tells that memory lacks.
 #[derive(Drop)]
@@ -12,15 +13,6 @@ pub struct Exchange {
     input: String,
     reply: String,
     without_memory: String,
-}
-
-// The reader of an input.
-fn pieces(input: &str) -> Pieces<'_> {
-    Pieces {
-        left: input.as_bytes(),
-        most: 8192,
-        after: After::End,
-    }
 }
 
 impl Exchange {
@@ -45,11 +37,10 @@ impl Exchange {
     }
 
     /// What comes of it at a desk. The writer takes no memory.
-    pub fn make<S: Alter + Drop>(&self, alloc: Global, desk: &mut Desk<S>) -> MemoryOutcome {
+    pub fn make<S: Alter + Drop>(&self, alloc: Global, bench: &mut Bench<S>) -> MemoryOutcome {
         let mut room = [0; 512];
-        let mut reader = Watched::new(pieces(&self.input));
         let mut writer = Watched::new(&mut room[..]);
-        let ended = serve_one(alloc, &mut reader, &mut writer, desk);
+        let ended = served(alloc, bench, &self.input, &mut writer);
         self.outcome(ended, &room)
     }
 }
@@ -57,17 +48,16 @@ impl Exchange {
 // Adds the reply to a request without a body.
 fn add_list<S: Alter + Drop>(
     alloc: Global,
-    desk: &mut Desk<S>,
+    bench: &mut Bench<S>,
     path: &str,
     writer: &mut Watched<Vec<u8>>,
 ) -> Option<()> {
     let input = get(alloc, path)?;
-    let mut reader = Watched::new(pieces(&input));
-    serve_one(alloc, &mut reader, writer, desk).ok()
+    served(alloc, bench, &input, writer).ok()
 }
 
 /// What a desk lists: its occurrences, and what is ready at each workstation.
-pub fn lists<S: Alter + Drop>(alloc: Global, desk: &mut Desk<S>) -> Option<Vec<u8>> {
+pub fn lists<S: Alter + Drop>(alloc: Global, bench: &mut Bench<S>) -> Option<Vec<u8>> {
     let mut writer = Watched::new(Vec::new(alloc));
     for path in [
         "/occurrences",
@@ -76,7 +66,7 @@ pub fn lists<S: Alter + Drop>(alloc: Global, desk: &mut Desk<S>) -> Option<Vec<u
         "/ready/PRT1",
         "/ready/DUMM",
     ] {
-        add_list(alloc, desk, path, &mut writer)?;
+        add_list(alloc, bench, path, &mut writer)?;
     }
     Some(writer.into_inner())
 }

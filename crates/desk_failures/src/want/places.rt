@@ -2,24 +2,24 @@
 use super::exchanges::{Exchange, lists};
 use super::replies::outcome;
 use super::turns::Turn;
+use crate::benches::{Bench, called, closed, created, opened};
 use plan_basics::Refusal;
 use plan_records::Request;
 use sqlite::{Alter, Connection};
 use std::alloc::Global;
 use taken_memory::MemoryOutcome;
-use tracker_http::Desk;
 use wires::{lacks_all, makes_first_night, tables_text};
 
 /// The connection to a database where no desk is open over it, or else the desk.
 #[derive(Drop)]
 pub struct Place<S: Alter + Drop> {
     conn: Option<Connection<S>>,
-    desk: Option<Desk<S>>,
+    desk: Option<Bench<S>>,
 }
 
 // What a desk makes of an operator's request.
-fn asked<S: Alter + Drop>(desk: &mut Desk<S>, request: &Request, told: &str) -> MemoryOutcome {
-    let reply = desk.call(request);
+fn asked<S: Alter + Drop>(bench: &mut Bench<S>, request: &Request, told: &str) -> MemoryOutcome {
+    let reply = called(bench, request);
     outcome(&reply, told)
 }
 
@@ -42,8 +42,8 @@ impl<S: Alter + Drop> Place<S> {
     }
 
     // Keeps what a desk's making or opening gives.
-    fn keep(&mut self, opened: Result<Desk<S>, (Refusal, Connection<S>)>) -> MemoryOutcome {
-        match opened {
+    fn keep(&mut self, kept: Result<Bench<S>, (Refusal, Connection<S>)>) -> MemoryOutcome {
+        match kept {
             Ok(desk) => {
                 self.desk = Some(desk);
                 MemoryOutcome::Done
@@ -62,10 +62,7 @@ impl<S: Alter + Drop> Place<S> {
     // Makes a desk over the connection.
     fn create(&mut self, alloc: Global) -> MemoryOutcome {
         match self.conn.take() {
-            Some(conn) => {
-                let created = Desk::create(alloc, conn);
-                self.keep(created)
-            }
+            Some(conn) => { self.keep(created(alloc, conn)) }
             None => MemoryOutcome::Otherwise,
         }
     }
@@ -81,10 +78,7 @@ impl<S: Alter + Drop> Place<S> {
     // Opens the desk over the connection.
     fn open(&mut self, alloc: Global) -> MemoryOutcome {
         match self.conn.take() {
-            Some(conn) => {
-                let opened = Desk::open(alloc, conn);
-                self.keep(opened)
-            }
+            Some(conn) => { self.keep(opened(alloc, conn)) }
             None => MemoryOutcome::Otherwise,
         }
     }
@@ -93,7 +87,7 @@ impl<S: Alter + Drop> Place<S> {
     fn close(&mut self) -> MemoryOutcome {
         match self.desk.take() {
             Some(desk) => {
-                self.conn = Some(desk.close());
+                self.conn = Some(closed(desk));
                 MemoryOutcome::Done
             }
             None => MemoryOutcome::Otherwise,

@@ -23,12 +23,23 @@ impl<S: Alter + Drop> Bench<S> {
         }
     }
 
-    /// The one that is opened over a connection.
-    pub fn opened(alloc: Global, conn: Connection<S>) -> Result<Self, Refusal> {
+    /// The one that is opened over a connection; or why there is none, and the connection.
+    pub fn opened_over(
+        alloc: Global,
+        conn: Connection<S>,
+    ) -> Result<Self, (Refusal, Connection<S>)> {
         match Desk::open(alloc, conn) {
             Ok(held) => Ok(Bench {
                 desk: Unseen { held },
             }),
+            Err(left) => Err(left),
+        }
+    }
+
+    /// The same without the connection.
+    pub fn opened(alloc: Global, conn: Connection<S>) -> Result<Self, Refusal> {
+        match Bench::opened_over(alloc, conn) {
+            Ok(bench) => Ok(bench),
             Err((refusal, _)) => Err(refusal),
         }
     }

@@ -5,7 +5,6 @@ use super::players::AtOnce;
 use crate::looks::is_told;
 use crate::playing::after;
 use crate::requests::request;
-use desk_tables::Desk;
 use plan_basics::Refusal;
 use sqlite::{Alter, Connection, MemStore};
 use std::alloc::Global;
@@ -253,7 +252,7 @@ fn is_refused<S: Alter + Drop>(
 // Whether a desk is opened over these tables.
 fn is_opened<S: Alter + Drop>(alloc: Global, mut conn: Connection<S>) -> Option<bool> {
     let before = tables_text(alloc, &mut conn).ok()?;
-    match Desk::open(alloc, conn) {
+    match Bench::opened_over(alloc, conn) {
         Ok(_) => Some(true),
         Err((refusal, conn)) => is_refused(alloc, refusal, conn, &before),
     }

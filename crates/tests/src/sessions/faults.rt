@@ -72,6 +72,37 @@ $ validate --extension @next.csv --plan @absent --at 2024-03-01T22:00
 $ validate --extension @next.csv --db @absent
 !fault file
 =3
+$ forecast
+!error: the following required arguments were not provided:
+!  --db <FILE>
+!
+!Usage: plandesk forecast --db <FILE>
+!
+!For more information, try '--help'.
+=2
+$ board --plan @night.csv
+!error: the following required arguments were not provided:
+!  --at <MOMENT>
+!
+!Usage: plandesk board --at <MOMENT> --plan <FILE>
+!
+!For more information, try '--help'.
+=2
+$ forecast --db @absent --at 22:00
+!fault moment
+=2
+$ forecast --plan @absent --at 2024-03-01T22:00 --until 22:00
+!fault moment
+=2
+$ forecast --plan @absent --at 2024-03-01T22:00 --until 2024-03-01T21:00
+!fault file
+=3
+$ board --plan @ --at 2024-03-01T22:00
+!fault file
+=3
+$ board --db @absent
+!fault file
+=3
 - absent
 "#;
 
@@ -85,6 +116,12 @@ $ extend --plan @next.csv --at 2024-03-01T22:00 --db @absent.db
 !fault file
 =3
 $ report --kind errors --db @absent.db
+!fault file
+=3
+$ forecast --db @absent.db
+!fault file
+=3
+$ board --db @absent.db
 !fault file
 =3
 $ serve --port 8080 --requests 1 --db @absent.db
@@ -102,6 +139,12 @@ refused 28 Damaged
 $ report --kind errors --db @empty
 refused 28 Damaged
 =1
+$ forecast --db @empty
+refused 28 Damaged
+=1
+$ board --db @empty
+refused 28 Damaged
+=1
 $ serve --port 8080 --requests 1 --db @empty
 refused 28 Damaged
 =1
@@ -115,6 +158,12 @@ $ extend --plan @next.csv --at 2024-03-01T22:00 --db @no_tables.db
 refused 28 Damaged
 =1
 $ report --kind errors --db @no_tables.db
+refused 28 Damaged
+=1
+$ forecast --db @no_tables.db
+refused 28 Damaged
+=1
+$ board --db @no_tables.db
 refused 28 Damaged
 =1
 $ serve --port 8080 --requests 1 --db @no_tables.db
@@ -132,6 +181,12 @@ $ extend --plan @next.csv --at 2024-03-01T22:00 --db @other.db
 $ report --kind errors --db @other.db
 !fault file
 =3
+$ forecast --db @other.db
+!fault file
+=3
+$ board --db @other.db
+!fault file
+=3
 $ serve --port 8080 --requests 1 --db @other.db
 !fault file
 =3
@@ -145,6 +200,12 @@ $ extend --plan @next.csv --at 2024-03-01T22:00 --db @
 !fault file
 =3
 $ report --kind errors --db @
+!fault file
+=3
+$ forecast --db @
+!fault file
+=3
+$ board --db @
 !fault file
 =3
 $ serve --port 8080 --requests 1 --db @

@@ -1,4 +1,5 @@
 // Texts of the files of a session.
+use super::ends::ENDS_PLAN;
 use plays_layers::resources::PAYROLL;
 
 // A plan but for its last record.
@@ -119,6 +120,45 @@ P,DAILY,2024-03-01T22:00,20,CPU1,30,0,0,,2024-03-01T22:29
 W,CPU1,A,,,,,,,
 ";
 
+// The last copies of the example's night: three of them on one tape, from 03:00 on, and then the online system is opened.
+const COPIES: &str = "W,CPU1,A,,,,,,,
+W,CPU2,A,,,,,,,
+W,SETP,S,,,,,,,
+W,PRT1,C,,,,,,,
+W,WAIT,N,,,,,,,
+I,CPU1,2024-03-01T20:00,2024-03-01T23:00,2,3,1,,,
+I,CPU1,2024-03-01T23:00,2024-03-02T05:00,3,4,1,,,
+I,CPU1,2024-03-02T05:00,2024-03-02T07:00,1,1,0,,,
+I,CPU2,2024-03-01T20:00,2024-03-02T06:30,1,2,0,,,
+I,SETP,2024-03-01T19:30,2024-03-02T02:00,1,0,0,,,
+I,SETP,2024-03-02T05:30,2024-03-02T07:00,1,0,0,,,
+X,TAPE-1,Y,,,,,,,
+O,BACKUP,2024-03-02T03:00,5,2024-03-02T06:00,,,,,
+P,BACKUP,2024-03-02T03:00,5,SETP,5,0,0,,
+P,BACKUP,2024-03-02T03:00,10,CPU1,30,1,0,2024-03-02T03:00,
+P,BACKUP,2024-03-02T03:00,20,CPU1,30,1,0,2024-03-02T03:00,
+P,BACKUP,2024-03-02T03:00,30,CPU2,20,1,0,2024-03-02T03:00,
+P,BACKUP,2024-03-02T03:00,90,WAIT,1,0,0,,
+D,BACKUP,2024-03-02T03:00,5,BACKUP,2024-03-02T03:00,10,,,
+D,BACKUP,2024-03-02T03:00,10,BACKUP,2024-03-02T03:00,90,,,
+D,BACKUP,2024-03-02T03:00,5,BACKUP,2024-03-02T03:00,20,,,
+D,BACKUP,2024-03-02T03:00,20,BACKUP,2024-03-02T03:00,90,,,
+D,BACKUP,2024-03-02T03:00,5,BACKUP,2024-03-02T03:00,30,,,
+D,BACKUP,2024-03-02T03:00,30,BACKUP,2024-03-02T03:00,90,,,
+N,BACKUP,2024-03-02T03:00,10,TAPE-1,X,F,,,
+N,BACKUP,2024-03-02T03:00,20,TAPE-1,X,F,,,
+N,BACKUP,2024-03-02T03:00,30,TAPE-1,X,F,,,
+O,ONLINE,2024-03-02T05:30,9,2024-03-02T06:30,,,,,
+P,ONLINE,2024-03-02T05:30,10,CPU1,10,1,0,2024-03-02T05:30,
+P,ONLINE,2024-03-02T05:30,20,SETP,10,0,0,,
+P,ONLINE,2024-03-02T05:30,30,SETP,5,0,0,,
+P,ONLINE,2024-03-02T05:30,40,WAIT,1,0,0,,
+D,ONLINE,2024-03-02T05:30,10,ONLINE,2024-03-02T05:30,20,,,
+D,ONLINE,2024-03-02T05:30,20,ONLINE,2024-03-02T05:30,30,,,
+D,ONLINE,2024-03-02T05:30,30,ONLINE,2024-03-02T05:30,40,,,
+D,BACKUP,2024-03-02T03:00,90,ONLINE,2024-03-02T05:30,10,,,
+";
+
 /// A small plan: a workstation, its interval, an occurrence, its operations 10 and 20, and their dependency.
 pub const DAY: &str = "W,CPU1,A,,,,,,,
 I,CPU1,1972-01-01T00:00,2071-12-31T23:59,2,0,0,,,
@@ -129,7 +169,7 @@ D,DAILY,2024-03-01T22:00,10,DAILY,2024-03-01T22:00,20,,,
 ";
 
 /// The files that stand in a session's folder.
-pub const FILES: [(&str, &str); 20] = [
+pub const FILES: [(&str, &str); 22] = [
     ("empty", ""),
     ("night.csv", PAYROLL),
     ("wrong.csv", WRONG),
@@ -146,8 +186,10 @@ pub const FILES: [(&str, &str); 20] = [
     ("parted", PARTED),
     ("unasked", UNASKED),
     ("warned.csv", WARNED),
+    ("copies.csv", COPIES),
     ("other.db", "a letter, and no database"),
     ("day.csv", DAY),
     ("none.csv", ""),
     ("empty.db", ""),
+    ("ends.csv", ENDS_PLAN),
 ];

@@ -5,7 +5,7 @@ use std::env;
 use std::path::PathBuf;
 
 // What is shown by the help of each command, and by that of the program.
-const HELPS: [(&str, &str); 12] = [
+const HELPS: [(&str, &str); 14] = [
     ("--help", "Usage: plandesk <COMMAND>"),
     (
         "validate --help",
@@ -24,28 +24,33 @@ const HELPS: [(&str, &str); 12] = [
         "[possible values: started, operations, resources, workstations, trackers]",
     ),
     ("why --help", "Example: plandesk why --db night.db"),
+    (
+        "forecast --help",
+        "Example: plandesk forecast --db night.db",
+    ),
+    ("board --help", "Example: plandesk board --db night.db"),
     ("serve --help", "Example: plandesk serve --db night.db"),
     ("desk --help", "Example: plandesk desk --db night.db"),
     ("play --help", "Example: plandesk play --plan day.csv"),
 ];
 
-// Whether a help is shown, without a fault, that has this text.
+// Whether something is shown, without a fault, that has this text.
 fn is_shown(rt: &HostRuntime, folder: &PathBuf, words: &str, example: &str) -> Option<bool> {
-    let help = told_by(rt, folder, words)?;
-    let is_fault = help
+    let told = told_by(rt, folder, words)?;
+    let is_fault = told
         .as_str()
         .lines()
         .any(|line| line.starts_with("!") || line.starts_with("="));
-    Some(!is_fault && help.as_str().contains(example))
+    Some(!is_fault && told.as_str().contains(example))
 }
 
-// These helps are shown.
-fn are_shown(
+/// By each of these words something is shown in a folder, without a fault, that has this text.
+pub fn are_shown(
     rt: &HostRuntime,
     folder: &PathBuf,
-    helps: &[(&str, &'static str)],
+    shown: &[(&str, &'static str)],
 ) -> Result<(), &'static str> {
-    for (words, example) in helps {
+    for (words, example) in shown {
         if is_shown(rt, folder, words, example) != Some(true) {
             return Err(example);
         }

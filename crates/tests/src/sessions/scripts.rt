@@ -482,7 +482,7 @@ $ play --plan @absent --at 22:00 --requests @absent
 
 /// The program's version, by either option.
 pub const VERSION: &str = r#"$ --version
-plandesk 0.19.0
+plandesk 0.20.0
 $ -V
-plandesk 0.19.0
+plandesk 0.20.0
 "#;
