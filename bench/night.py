@@ -1,9 +1,9 @@
 #!/usr/bin/env python3
-"""Makes what plandesk has to answer in examples/night, played.txt and reports.txt, by a model: the rules of rules.py and the
-texts below, apart from the desk's own code.
+"""Makes what plandesk has to answer in examples/night, played.txt, reports.txt and forecasts.txt, by a model: the rules of
+rules.py, forecasts by forecast.py and the texts below, apart from the desk's own code.
 
     night.py --check                says where the kept copies in examples/night differ from what the model makes
-    night.py --write FOLDER         writes both into a folder: examples/night itself, where a rule or a text is to change
+    night.py --write FOLDER         writes them into a folder: examples/night itself, where a rule or a text is to change
     night.py --why KEY --after N    prints what `why` tells of an operation after so many of the requests
 
 Exit status: 0 nothing differs, or it is written; 1 something differs; 2 a file isn't there, or a line is no request.
@@ -15,6 +15,7 @@ import sys
 from pathlib import Path
 
 from expected import is_operation, is_operators_request, object_of
+from forecast import forecast_text
 from rules import REFUSALS, WAITING_OR_READY, Plan, answered, key_text, minute_of, moment_text, operation_of
 
 NIGHT = Path(__file__).resolve().parent.parent / "examples" / "night"
@@ -23,6 +24,9 @@ MORNING = "2024-03-02T07:00"    # the moment at which the second night comes in
 # After which request each report is asked for, and of which workstation: as bin/night does.
 REPORTED = ((13, "ready", "CPU1"), (22, "errors", None), (63, "late", None), (72, "occurrences", None), (74, "occurrences", None),
             (79, "late", None), (92, "occurrences", None))
+
+# After which request a forecast is asked for, from the clock on: as bin/night does.
+FORETOLD = 0, 24, 62
 
 
 def lines_of(*lines):
@@ -145,11 +149,13 @@ def steps():
 
 def expected_texts():
     """What has to be played and reported, by the names of the files."""
-    answers, reports = [], []
+    answers, reports, forecasts = [], [], []
     for number, answer, plan in steps():
         answers.append(answer)
         reports += [report_text(plan, kind, workstation) for after, kind, workstation in REPORTED if after == number]
-    return {"played.txt": "".join(answers), "reports.txt": "\n".join(reports)}
+        if number in FORETOLD:
+            forecasts.append(forecast_text(plan, plan.clock))
+    return {"played.txt": "".join(answers), "reports.txt": "\n".join(reports), "forecasts.txt": "\n".join(forecasts)}
 
 
 def check():
@@ -185,7 +191,7 @@ def main():
     words = argparse.ArgumentParser(description=" ".join(__doc__.splitlines()[:2]), epilog=__doc__.splitlines()[-1])
     what = words.add_mutually_exclusive_group(required=True)
     what.add_argument("--check", action="store_true", help="say where the kept copies in examples/night differ")
-    what.add_argument("--write", type=Path, metavar="FOLDER", help="write played.txt and reports.txt into a folder")
+    what.add_argument("--write", type=Path, metavar="FOLDER", help="write the three files into a folder")
     what.add_argument("--why", metavar="KEY", help="print what `why` tells of an operation, as APP/MOMENT/NNN")
     words.add_argument("--after", type=int, default=0, metavar="N", help="after so many of the requests, for --why (0: after the load)")
     given = words.parse_args()
