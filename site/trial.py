@@ -214,15 +214,28 @@ class Site:
         return found
 
     def kill_runner(self, chance=random):
-        """Kills a runner whose command hasn't ended, and not the command; whether there was one."""
-        begun = []
+        """Kills a runner whose command hasn't ended, be it that nothing was begun yet, and not the command; whether there was
+        one."""
+        runners = children_of({process.pid for process in self.started})
         for path in self.folder.glob("trackers/*/runs/*/begun"):
             try:
                 if not path.with_name("status").exists():
-                    begun.append(int(path.read_text().split()[0]))
+                    runners.append(int(path.read_text().split()[0]))
             except OSError:
                 pass                    # its end was told meanwhile
-        return bool(begun) and kill_those(self.inside([chance.choice(begun)]))
+        return bool(runners) and kill_those(self.inside([chance.choice(runners)]))
+
+
+def children_of(parents):
+    """The processes that one of these started."""
+    found = []
+    for place in Path("/proc").glob("[0-9]*"):
+        try:
+            if int((place / "stat").read_text().rpartition(")")[2].split()[1]) in parents:
+                found.append(int(place.name))
+        except OSError:
+            pass                        # it has ended
+    return found
 
 
 def is_inside(place, folder):
