@@ -1,15 +1,19 @@
-// Tables of rows, and the parts of a row.
+// Rows of tables, and their parts.
 use std::alloc::{AllocError, Global};
-use std::ops::Range;
 
-/// What is to hold; what it is is the error.
-pub fn so(holds: bool, what: &'static str) -> Result<(), &'static str> {
-    if holds { Ok(()) } else { Err(what) }
+/// What is to hold, and what each is; the first that doesn't is the error.
+pub fn all_so(claims: &[(bool, &'static str)]) -> Result<(), &'static str> {
+    for (holds, what) in claims {
+        if !*holds {
+            return Err(what);
+        }
+    }
+    Ok(())
 }
 
-/// One of the parts of a line, with this mark between them.
-pub fn part(line: &str, mark: char, place: usize) -> &str {
-    line.split(mark).nth(place).unwrap_or("")
+/// One of the parts of a row, with semicolons between them.
+pub fn part(row: &str, place: usize) -> &str {
+    row.split(';').nth(place).unwrap_or("")
 }
 
 /// The bytes of a text behind another one. A bar in it stands for a line's end, and a tilde for a byte of no character.
@@ -28,28 +32,4 @@ fn meant(byte: u8) -> u8 {
         b'~' => 255,
         _ => byte,
     }
-}
-
-/// The text of a case: what it is, the line that a text is without, and the line that is added to it.
-pub fn text_in(alloc: Global, text: &str, case: &str) -> Option<String> {
-    let (before, after) = text.split_once(part(case, '|', 1))?;
-    [before, after, part(case, '|', 2)].join(alloc, "").ok()
-}
-
-/// How often a text has this in it.
-pub fn count(text: &str, mark: &str) -> usize {
-    text.split(mark).count().saturating_sub(1)
-}
-
-/// Puts a line behind a text for each of these numbers, which is put between a front and a back.
-pub fn push_lines(
-    text: &mut String,
-    front: &str,
-    numbers: Range<u16>,
-    back: &str,
-) -> Result<(), AllocError> {
-    for number in numbers {
-        writeln!(text, "{front}{number}{back}")?;
-    }
-    Ok(())
 }

@@ -1,6 +1,7 @@
 //! Readers and writers that fail, and what is remembered of it.
 ghost use Rattle.std.specs.Prelude.{◌≤◌, IfOk};
 
+use super::tables::all_so;
 use plan_basics::Watched;
 use std::io;
 use std::io::{Read, Write};
@@ -52,8 +53,8 @@ fn reads<R: Read>(
     reader.read_exact(bytes).is_ok() == is_read && reader.failed() == is_remembered
 }
 
-/// A read that fails is remembered.
-pub fn a_read_that_fails_is_remembered() -> bool {
+// A read that fails is remembered.
+fn a_read_that_fails_is_remembered() -> bool {
     let mut reader = Watched::new(Faulty { calls: 0, fault: 2 });
     let fails = reads(&mut reader, &mut [0; 5], false, true);
     reader.clear();
@@ -76,8 +77,8 @@ fn flushes<W: Write>(writer: &mut Watched<W>, is_flushed: bool, is_remembered: b
     writer.flush().is_ok() == is_flushed && writer.failed() == is_remembered
 }
 
-/// A write that fails is remembered.
-pub fn a_write_that_fails_is_remembered() -> bool {
+// A write that fails is remembered.
+fn a_write_that_fails_is_remembered() -> bool {
     let mut writer = Watched::new(Faulty { calls: 0, fault: 3 });
     let fails = writes(&mut writer, b"at most four", false, true);
     writer.clear();
@@ -85,20 +86,31 @@ pub fn a_write_that_fails_is_remembered() -> bool {
     fails && writes && writer.into_inner().calls == 6
 }
 
-/// A flush is passed on and its fault remembered.
-pub fn a_flush_is_passed_on_and_its_fault_remembered() -> bool {
+// A flush is passed on and its fault remembered.
+fn a_flush_is_passed_on_and_its_fault_remembered() -> bool {
     let mut writer = Watched::new(Faulty { calls: 0, fault: 2 });
     let flushes = flushes(&mut writer, true, false) && flushes(&mut writer, false, true);
     flushes && writer.into_inner().calls == 2
 }
 
-/// An end is no fault.
-pub fn an_end_is_no_fault() -> bool {
+// An end is no fault.
+fn an_end_is_no_fault() -> bool {
     reads(&mut Watched::new(&b"ab"[..]), &mut [0; 3], false, false)
 }
 
-/// A full writer is a fault.
-pub fn a_full_writer_is_a_fault() -> bool {
+// A full writer is a fault.
+fn a_full_writer_is_a_fault() -> bool {
     let mut room = [0; 3];
     writes(&mut Watched::new(&mut room[..]), b"abcd", false, true)
+}
+
+/// A read, a write and a flush that fail are remembered until that is cleared, and none is tried again; an end is no fault.
+pub fn faults_are_remembered() -> Result<(), &'static str> {
+    all_so(&[
+        (a_read_that_fails_is_remembered(), "a read"),
+        (a_write_that_fails_is_remembered(), "a write"),
+        (a_flush_is_passed_on_and_its_fault_remembered(), "a flush"),
+        (an_end_is_no_fault(), "an end"),
+        (a_full_writer_is_a_fault(), "a full writer"),
+    ])
 }

@@ -1,11 +1,90 @@
-// What is told of texts with each kind of fault, with a bar behind each fault.
-use super::cases::is;
-use super::claims::{Claim, each};
-use super::tables::so;
-use super::telling::told_of_plan;
+//! What is told of texts with each kind of fault. A row of a table has what stands behind a text, and what is told of both,
+//! with a bar behind each fault.
+use super::tables::{all_so, bytes_of, part};
 use record_faults::{Fault, Group, RecordFault};
 use std::alloc::{AllocError, Global};
-use text_faults::{TextFaults, fault_text, faults_of_text};
+use text_faults::{
+    AddedText, AddedTextFaults, TextFaults, added_fault_text, fault_text, faults_of_added_text,
+    faults_of_text,
+};
+
+fn plan_words(alloc: Global, told: &TextFaults) -> Result<String, AllocError> {
+    let mut words = String::new(alloc);
+    for fault in &told.faults {
+        words.push_str(&fault_text(alloc, fault, told)?)?;
+        words.push('|')?;
+    }
+    Ok(words)
+}
+
+// What is told of a plan's text.
+fn told_of_plan(alloc: Global, text: &[u8]) -> Option<String> {
+    match faults_of_text(alloc, text) {
+        Ok(told) => plan_words(alloc, &told).ok(),
+        Err(_) => None,
+    }
+}
+
+fn added_words(alloc: Global, told: &AddedTextFaults) -> Result<String, AllocError> {
+    let mut words = String::new(alloc);
+    for fault in &told.faults {
+        words.push_str(&added_fault_text(alloc, fault, told)?)?;
+        words.push('|')?;
+    }
+    Ok(words)
+}
+
+// What is told of the text of an addition or an extension.
+fn told_of_added(alloc: Global, added: AddedText, text: &[u8]) -> Option<String> {
+    match faults_of_added_text(alloc, added, text) {
+        Ok(told) => added_words(alloc, &told).ok(),
+        Err(_) => None,
+    }
+}
+
+// Whether something was written, and is this.
+fn is(written: &Option<String>, expected: &str) -> bool {
+    match written {
+        Some(text) => text.as_str() == expected,
+        None => false,
+    }
+}
+
+// What is told of a text that adds to a plan so, or is a plan's.
+fn told_of(alloc: Global, added: Option<AddedText>, text: &[u8]) -> Option<String> {
+    match added {
+        Some(added) => told_of_added(alloc, added, text),
+        None => told_of_plan(alloc, text),
+    }
+}
+
+// Whether these words are told of a text behind another one.
+fn is_told(alloc: Global, added: Option<AddedText>, front: &str, text: &str, words: &str) -> bool {
+    match bytes_of(alloc, front, text) {
+        Ok(text) => is(&told_of(alloc, added, &text), words),
+        Err(_) => false,
+    }
+}
+
+/// Whether these words are told of a plan's text behind another one.
+pub fn is_told_of_plan(alloc: Global, front: &str, text: &str, words: &str) -> bool {
+    is_told(alloc, None, front, text, words)
+}
+
+// Goes over the rows of a table; the first that tells something else is the error.
+fn each(
+    alloc: Global,
+    added: Option<AddedText>,
+    front: &str,
+    rows: &'static str,
+) -> Result<(), &'static str> {
+    for row in rows.lines() {
+        if !is_told(alloc, added, front, part(row, 0), part(row, 1)) {
+            return Err(row);
+        }
+    }
+    Ok(())
+}
 
 // A plan, whose last record begins in line 6.
 const PLAN: &str = "W,CPU1,A,,,,,,,
@@ -42,39 +121,6 @@ const WHOLE: &str =
 \u{feff}W,CPU1,A,,,,,,,\r|W,CPU1,A,,,,,,,\r|;line 2: workstation CPU1: given before, in line 1: each is given once|line 2: occurrence: the plan has none: it must have at least one|
 not a plan;line 1: 1 fields: a record has 10|line 1: workstation: the plan has none: it must have at least one|line 1: occurrence: the plan has none: it must have at least one|
 ";
-
-/// What is wrong with a plan's text is told.
-pub fn faults_of_texts(alloc: Global) -> Result<(), &'static str> {
-    each(alloc, Claim::Told, PLAN, AFTER)?;
-    each(alloc, Claim::Told, "", WHOLE)
-}
-
-// The plan, with seventeen needs of an operation.
-fn with_seventeen_needs(alloc: Global) -> Result<String, AllocError> {
-    let mut text = String::from_str(alloc, PLAN)?;
-    for number in 1..18 {
-        writeln!(text, "X,TAPE{number},Y,,,,,,,")?;
-        writeln!(text, "N,DAILY,2024-03-01T22:00,10,TAPE{number},S,K,,,")?;
-    }
-    Ok(text)
-}
-
-// What is told of a text that was made.
-fn told_of(alloc: Global, text: Result<String, AllocError>) -> Option<String> {
-    match text {
-        Ok(text) => told_of_plan(alloc, text.as_bytes()),
-        Err(_) => None,
-    }
-}
-
-const SEVENTEEN_NEEDS: &str =
-    "line 8: need: operation DAILY/2024-03-01T22:00/010 has 17: it may have at most 16|";
-
-/// That an operation has more needs than it may is told.
-pub fn too_many_needs(alloc: Global) -> Result<(), &'static str> {
-    let told = told_of(alloc, with_seventeen_needs(alloc));
-    so(is(&told, SEVENTEEN_NEEDS), "seventeen needs")
-}
 
 // Records of which one field each isn't what it may be, and what is told of it.
 const FIELDS: &str = "W,CPU2,Q,,,,,,,|;line 7: workstation: attribute: must be A, S, C or N|
@@ -167,61 +213,6 @@ N,DAILY,2024-03-01T22:00,10,DISK,S,K,6,,||X,DISK,Y,5,,,,,,|;line 9: need: amount
 X,TAPE,Y,6,,,,,,|;line 9: special resource TAPE: given before, in line 7: each is given once|
 ";
 
-/// Each field of each kind and each kind of key is told by its words, and so is a need of more than there is.
-pub fn words_of_fields_and_keys(alloc: Global) -> Result<(), &'static str> {
-    each(alloc, Claim::Told, PLAN, FIELDS)?;
-    each(alloc, Claim::Told, NEEDY, KEYS)?;
-    each(alloc, Claim::Told, STOCKED, AMOUNTS)
-}
-
-// What is told of seven of a group.
-fn seven_told(alloc: Global, group: Group, told: &TextFaults) -> Option<String> {
-    let fault = RecordFault {
-        place: 0,
-        fault: Fault::TooMany(group, 7),
-    };
-    fault_text(alloc, &fault, told).ok()
-}
-
-// Whether these words are told of seven of a group, where there is no record.
-fn group_is_told(alloc: Global, group: Group, words: &str) -> bool {
-    match faults_of_text(alloc, b"") {
-        Ok(told) => is(&seven_told(alloc, group, &told), words),
-        Err(_) => false,
-    }
-}
-
-const WORKSTATIONS: &str = "line 1: workstation: the plan has 7: it may have at most 99";
-
-const RESOURCES: &str = "line 1: special resource: the plan has 7: it may have at most 999";
-
-const OCCURRENCES: &str = "line 1: occurrence: the plan has 7: it may have at most 5000";
-
-const OPERATIONS: &str = "line 1: operation: the plan has 7: it may have at most 20000";
-
-const DEPENDENCIES: &str = "line 1: dependency: the plan has 7: it may have at most 100000";
-
-/// Each group that is the whole plan's is told by its words.
-pub fn words_of_groups(alloc: Global) -> Result<(), &'static str> {
-    so(
-        group_is_told(alloc, Group::Workstations, WORKSTATIONS),
-        WORKSTATIONS,
-    )?;
-    so(group_is_told(alloc, Group::Resources, RESOURCES), RESOURCES)?;
-    so(
-        group_is_told(alloc, Group::Occurrences, OCCURRENCES),
-        OCCURRENCES,
-    )?;
-    so(
-        group_is_told(alloc, Group::Operations, OPERATIONS),
-        OPERATIONS,
-    )?;
-    so(
-        group_is_told(alloc, Group::Dependencies, DEPENDENCIES),
-        DEPENDENCIES,
-    )
-}
-
 // An occurrence of one operation, which needs a special resource and follows an operation of another occurrence: four lines.
 const BILLING: &str = "O,BILLING,2024-03-01T22:00,5,2024-03-02T03:00,,,,,
 P,BILLING,2024-03-01T22:00,10,CPU1,30,0,0,,
@@ -275,19 +266,71 @@ N,BILLING,2024-03-01T22:00,10,CUSTFILE,S,F,,,|;line 1: operation BILLING/2024-03
 D,PAYROLL,2024-03-01T22:00,30,PAYROLL,2024-03-01T22:00,40,,,|;line 1: dependency: one of its operations must be of an occurrence that is added|
 ";
 
-/// What is wrong with an extension's text is told.
-pub fn faults_of_extensions(alloc: Global) -> Result<(), &'static str> {
-    each(
-        alloc,
-        Claim::ToldOfExtension,
-        BILLING,
-        AFTER_BILLING_IN_AN_EXTENSION,
-    )?;
-    each(alloc, Claim::ToldOfExtension, "", WHOLE_EXTENSIONS)
+/// What is wrong with the text of a plan, an addition or an extension is told by its words: of each field of each kind, each
+/// kind of key, and the rest.
+pub fn words_of_texts(alloc: Global) -> Result<(), &'static str> {
+    let addition = Some(AddedText::Addition);
+    let extension = Some(AddedText::Extension);
+    each(alloc, None, PLAN, AFTER)?;
+    each(alloc, None, "", WHOLE)?;
+    each(alloc, None, PLAN, FIELDS)?;
+    each(alloc, None, NEEDY, KEYS)?;
+    each(alloc, None, STOCKED, AMOUNTS)?;
+    each(alloc, addition, BILLING, AFTER_BILLING)?;
+    each(alloc, addition, "", WHOLE_ADDITIONS)?;
+    each(alloc, extension, BILLING, AFTER_BILLING_IN_AN_EXTENSION)?;
+    each(alloc, extension, "", WHOLE_EXTENSIONS)
 }
 
-/// What is wrong with an addition's text is told.
-pub fn faults_of_additions(alloc: Global) -> Result<(), &'static str> {
-    each(alloc, Claim::ToldOfAddition, BILLING, AFTER_BILLING)?;
-    each(alloc, Claim::ToldOfAddition, "", WHOLE_ADDITIONS)
+const WORKSTATIONS: &str = "line 1: workstation: the plan has 7: it may have at most 99";
+
+const RESOURCES: &str = "line 1: special resource: the plan has 7: it may have at most 999";
+
+const OCCURRENCES: &str = "line 1: occurrence: the plan has 7: it may have at most 5000";
+
+const OPERATIONS: &str = "line 1: operation: the plan has 7: it may have at most 20000";
+
+const DEPENDENCIES: &str = "line 1: dependency: the plan has 7: it may have at most 100000";
+
+// Whether these words are told of seven of a group, where there is no record.
+fn is_seven(alloc: Global, told: &TextFaults, group: Group, words: &str) -> bool {
+    let fault = RecordFault {
+        place: 0,
+        fault: Fault::TooMany(group, 7),
+    };
+    is(&fault_text(alloc, &fault, told).ok(), words)
+}
+
+// Whether each group that is the whole plan's is told by its words.
+fn are_seven(alloc: Global, told: &TextFaults) -> Result<(), &'static str> {
+    all_so(&[
+        (
+            is_seven(alloc, told, Group::Workstations, WORKSTATIONS),
+            WORKSTATIONS,
+        ),
+        (
+            is_seven(alloc, told, Group::Resources, RESOURCES),
+            RESOURCES,
+        ),
+        (
+            is_seven(alloc, told, Group::Occurrences, OCCURRENCES),
+            OCCURRENCES,
+        ),
+        (
+            is_seven(alloc, told, Group::Operations, OPERATIONS),
+            OPERATIONS,
+        ),
+        (
+            is_seven(alloc, told, Group::Dependencies, DEPENDENCIES),
+            DEPENDENCIES,
+        ),
+    ])
+}
+
+/// That there are more than may be is told of each group that is the whole plan's.
+pub fn words_of_groups(alloc: Global) -> Result<(), &'static str> {
+    match faults_of_text(alloc, b"") {
+        Ok(told) => are_seven(alloc, &told),
+        Err(_) => Err("memory"),
+    }
 }
