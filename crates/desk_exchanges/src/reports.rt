@@ -1,103 +1,231 @@
-// A report of a tracker, in pieces and cut short; and requests of operators.
-use super::FAILED;
-use super::benches::{Bench, empty};
-use super::exchanges::{Exchange, and_five, make_exchange, send};
-use super::plays::{Matter, at_loaded};
-use sqlite::Alter;
-use status_rules::{Mark, Status};
-use std::alloc::Global;
-use wires::{After, START, accepted, fault, post, reply};
+// Talks of reports and of reasons, which are shown in want of memory.
 
-// How many reads give so many bytes, at most so many a read.
-fn reads_of(length: usize, most: usize) -> Option<usize> {
-    length.checked_add(most)?.checked_sub(1)?.checked_div(most)
-}
+/// The body that loads an operation at the first minute that a plan can name, one after it, and one of the night.
+pub const OPEN_AND_OLD: &str = concat!(
+    "{\"at\":\"2024-03-01T21:00\",\"do\":\"load\",\"records\":\"",
+    "W,CPU1,A,,,,,,,\\n",
+    "I,CPU1,2024-03-01T22:00,2024-03-02T06:00,2,3,0,,,\\n",
+    "O,AAA,2024-03-01T22:00,5,2024-03-02T04:00,,,,,\\n",
+    "P,AAA,2024-03-01T22:00,10,CPU1,30,0,0,,\\n",
+    "O,OLD,1972-01-01T00:00,5,1972-01-01T00:30,,,,,\\n",
+    "P,OLD,1972-01-01T00:00,10,CPU1,20,0,0,,\\n",
+    "P,OLD,1972-01-01T00:00,20,CPU1,20,0,0,,\\n",
+    "D,OLD,1972-01-01T00:00,10,OLD,1972-01-01T00:00,20,,,\\n",
+    "\"}",
+);
 
-// The start is reported in pieces of so many bytes, and accepted; nothing is read behind the last.
-fn in_pieces<S: Alter + Drop>(alloc: Global, bench: &mut Bench<S>, most: usize) -> Option<()> {
-    let input = START.request(alloc)?;
-    let reply = accepted(alloc)?;
-    let mut pieces = Exchange::new(&input, After::Fault, &reply);
-    pieces.most = most;
-    pieces.reads = Some(reads_of(input.len(), most)?);
-    make_exchange(alloc, bench, &pieces)
-}
+/// Reports before a plan is loaded, and what they show after some turns; why an operation doesn't go on.
+pub const REPORTS: &str = r#"desk
 
-// The start is reported and accepted, in pieces of each of these sizes; each after the first is a repetition.
-fn in_each<S: Alter + Drop>(alloc: Global, bench: &mut Bench<S>, sizes: &[usize]) -> Option<()> {
-    for most in sizes {
-        in_pieces(alloc, bench, *most)?;
-    }
-    Some(())
-}
+GET /report/occurrences
+409 Conflict | 32
+{"name":"NotLoaded","refusal":3}
 
-/// The start is reported in pieces of five sizes.
-pub fn in_pieces_of_each_size<S: Alter + Drop>(alloc: Global, bench: &mut Bench<S>) -> Option<()> {
-    in_each(alloc, bench, &[8192, 1, 2, 7, 64])
-}
+GET /report/errors
+409 Conflict | 32
+{"name":"NotLoaded","refusal":3}
 
-/// A start that is reported in pieces.
-pub fn a_start_is_reported_in_pieces(alloc: Global) -> Result<(), &'static str> {
-    at_loaded(alloc, Matter::Pieces, Mark::Running, Status::Started)
-}
+GET /report/late
+409 Conflict | 32
+{"name":"NotLoaded","refusal":3}
 
-// The front of a report, of which a byte is read a call, is no request. Nothing is read behind the end.
-fn cut_short<S: Alter + Drop>(alloc: Global, bench: &mut Bench<S>, front: &str) -> Option<()> {
-    let reply = fault(alloc, "400 Bad Request", "")?;
-    let mut cut = Exchange::new(front, After::End, &reply);
-    cut.most = 1;
-    cut.reads = Some(front.len().saturating_add(1));
-    make_exchange(alloc, bench, &cut)
-}
+GET /report/ready/CPU1
+409 Conflict | 32
+{"name":"NotLoaded","refusal":3}
 
-/// The report of the start, cut after each byte but the last, is no request.
-pub fn each_cut_short<S: Alter + Drop>(alloc: Global, bench: &mut Bench<S>) -> Option<()> {
-    let report = START.request(alloc)?;
-    for end in 0..report.len() {
-        cut_short(alloc, bench, report.get(..end)?)?;
-    }
-    Some(())
-}
+POST /operator NIGHT
+200 OK | 12
+{"named":[]}
 
-/// A report cut after each byte.
-pub fn a_report_cut_after_each_byte(alloc: Global) -> Result<(), &'static str> {
-    at_loaded(alloc, Matter::CutShort, Mark::Unmarked, Status::Arriving)
-}
+GET /report/ready/SETP
+at last
+READY SETP AT 2024-03-01T21:00
+PAYROLL          2024-03-01T22:00   5 A - 5   10 2024-03-02T02:59
+END 1
 
-// A tick of an operator gets this reply.
-fn tick<S: Alter + Drop>(alloc: Global, bench: &mut Bench<S>, reply: &str) -> Option<()> {
-    let body = "{\"at\":\"2024-03-01T21:00\",\"do\":\"tick\"}";
-    let input = post(alloc, "/operator", body)?;
-    send(alloc, bench, &input, After::End, reply)
-}
+GET /report/ready/PRT1
+at last
+READY PRT1 AT 2024-03-01T21:00
+END 0
 
-// A tick is refused, since no plan is loaded.
-fn refused_tick<S: Alter + Drop>(alloc: Global, bench: &mut Bench<S>) -> Option<()> {
-    let body = "{\"name\":\"NotLoaded\",\"refusal\":3}";
-    let refused = reply(alloc, "409 Conflict", "", 32, body)?;
-    tick(alloc, bench, &refused)
-}
+POST /operator {"at":"2024-03-01T21:10","do":"delete","occ":"PAYROLL/2024-03-01T22:00"}
+200 OK | 12
+{"named":[]}
 
-/// A tick is accepted.
-pub fn accepted_tick<S: Alter + Drop>(alloc: Global, bench: &mut Bench<S>) -> Option<()> {
-    let accepted = accepted(alloc)?;
-    tick(alloc, bench, &accepted)
-}
+GET /report/occurrences
+at last
+OCCURRENCES AT 2024-03-01T21:10
+PAYROLL          2024-03-01T22:00 5 D 2024-03-02T05:00     5     0
+END 1
 
-// A tick of an operator before a plan is loaded.
-fn a_tick_before_a_load(alloc: Global) -> Result<(), &'static str> {
-    let mut bench = empty(alloc).ok().ok_or(FAILED)?;
-    let came = refused_tick(alloc, &mut bench).ok_or("a tick before a load");
-    and_five(&bench, came, None)
-}
+POST /operator {"at":"2024-03-01T21:20","do":"extend","records":""}
+200 OK | 12
+{"named":[]}
 
-// A tick of an operator once a plan is loaded.
-fn a_tick_after_a_load(alloc: Global) -> Result<(), &'static str> {
-    at_loaded(alloc, Matter::Tick, Mark::Unmarked, Status::Arriving)
-}
+GET /report/ready/SETP
+at last
+READY SETP AT 2024-03-01T21:20
+END 0
 
-/// A tick of an operator, before a plan is loaded and after it.
-pub fn a_tick_of_an_operator(alloc: Global) -> Result<(), &'static str> {
-    a_tick_before_a_load(alloc)?;
-    a_tick_after_a_load(alloc)
-}
+GET /report/occurrences
+at last
+OCCURRENCES AT 2024-03-01T21:20
+END 0
+
+GET /report/errors
+at last
+ERRORS AT 2024-03-01T21:20
+END 0
+
+GET /report/late
+at last
+LATE AT 2024-03-01T21:20
+END 0
+
+
+desk
+
+POST /operator NIGHT
+200 OK | 12
+{"named":[]}
+
+POST /operator {"at":"2024-03-01T21:30","do":"hold","op":"PAYROLL/2024-03-01T22:00/005"}
+200 OK | 12
+{"named":[]}
+
+GET /report/ready/SETP
+at last
+READY SETP AT 2024-03-01T21:30
+PAYROLL          2024-03-01T22:00   5 A H 5   10 2024-03-02T02:59
+END 1
+
+POST /operator {"at":"2024-03-01T21:40","do":"release","op":"PAYROLL/2024-03-01T22:00/005"}
+200 OK | 12
+{"named":[]}
+
+POST /operator {"at":"2024-03-01T22:00","do":"started","op":"PAYROLL/2024-03-01T22:00/005"}
+200 OK | 12
+{"named":[]}
+
+POST /operator {"at":"2024-03-01T22:10","do":"ended","op":"PAYROLL/2024-03-01T22:00/005"}
+200 OK | 42
+{"named":["PAYROLL/2024-03-01T22:00/010"]}
+
+POST /operator {"at":"2024-03-01T22:40","do":"ended","op":"PAYROLL/2024-03-01T22:00/010"}
+200 OK | 42
+{"named":["PAYROLL/2024-03-01T22:00/020"]}
+
+POST /operator {"at":"2024-03-01T22:45","do":"add","records":"O,BILLING,2024-03-01T22:00,5,2024-03-02T03:00,,,,,\nP,BILLING,2024-03-01T22:00,10,CPU1,30,0,0,,\nN,BILLING,2024-03-01T22:00,10,CUSTFILE,S,F,,,\n"}
+200 OK | 12
+{"named":[]}
+
+POST /operator {"at":"2024-03-01T23:00","do":"error","op":"PAYROLL/2024-03-01T22:00/020","code":"S0C7"}
+200 OK | 12
+{"named":[]}
+
+GET /report/occurrences
+at last
+OCCURRENCES AT 2024-03-01T23:00
+BILLING          2024-03-01T22:00 5 W 2024-03-02T03:00     1     0
+PAYROLL          2024-03-01T22:00 5 E 2024-03-02T05:00     5     2
+END 2
+
+GET /report/errors
+at last
+ERRORS AT 2024-03-01T23:00
+PAYROLL          2024-03-01T22:00  20 CPU1 S0C7
+END 1
+
+GET /why/BILLING/2024-03-01T22:00/010
+at last
+BILLING/2024-03-01T22:00/010 A 2024-03-01T23:00
+CUSTFILE held by PAYROLL/2024-03-01T22:00/020 exclusive
+END 1
+
+
+desk
+
+POST /operator NIGHT
+200 OK | 12
+{"named":[]}
+
+POST /operator {"at":"2024-03-01T22:00","do":"started","op":"PAYROLL/2024-03-01T22:00/005"}
+200 OK | 12
+{"named":[]}
+
+POST /operator {"at":"2024-03-01T22:05","do":"error","op":"PAYROLL/2024-03-01T22:00/005","code":"E1"}
+200 OK | 12
+{"named":[]}
+
+GET /report/errors
+at last
+ERRORS AT 2024-03-01T22:05
+PAYROLL          2024-03-01T22:00   5 SETP E1  
+END 1
+
+
+desk
+
+POST /operator NIGHT
+200 OK | 12
+{"named":[]}
+
+POST /operator {"at":"2024-03-02T02:59","do":"tick"}
+200 OK | 12
+{"named":[]}
+
+GET /report/late
+at last
+LATE AT 2024-03-02T02:59
+END 0
+
+POST /operator {"at":"2024-03-02T03:00","do":"tick"}
+200 OK | 12
+{"named":[]}
+
+GET /report/late
+at last
+LATE AT 2024-03-02T03:00
+PAYROLL          2024-03-01T22:00   5 SETP A 2024-03-02T02:59
+END 1
+
+
+desk
+
+POST /operator NIGHT
+200 OK | 12
+{"named":[]}
+
+POST /operator {"at":"2024-03-01T22:00","do":"started","op":"PAYROLL/2024-03-01T22:00/005"}
+200 OK | 12
+{"named":[]}
+
+POST /operator {"at":"2024-03-02T03:30","do":"tick"}
+200 OK | 12
+{"named":[]}
+
+GET /report/late
+at last
+LATE AT 2024-03-02T03:30
+PAYROLL          2024-03-01T22:00  10 CPU1 W 2024-03-02T03:09
+END 1
+
+
+desk
+
+POST /operator OPEN_AND_OLD
+200 OK | 12
+{"named":[]}
+
+GET /report/ready/CPU1
+at last
+READY CPU1 AT 2024-03-01T21:00
+OLD              1972-01-01T00:00  10 A - 5   20 ----------------
+AAA              2024-03-01T22:00  10 A - 5   30 2024-03-02T03:30
+END 2
+
+GET /report/ready/CPU2
+409 Conflict | 41
+{"name":"UnknownWorkstation","refusal":7}
+
+twenty"#;

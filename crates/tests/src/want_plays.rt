@@ -68,11 +68,6 @@ fn tables_of_the_first_version_are_opened(rt: HostRuntime) -> Result<(), &'stati
 }
 
 #[test]
-fn reports_in_want_of_memory(rt: HostRuntime) -> Result<(), &'static str> {
-    desk_exchanges::reports_in_want_of_memory(rt.alloc())
-}
-
-#[test]
-fn why_in_want_of_memory(rt: HostRuntime) -> Result<(), &'static str> {
-    desk_exchanges::why_in_want_of_memory(rt.alloc())
+fn reports_and_reasons_in_want_of_memory(rt: HostRuntime) -> Result<(), &'static str> {
+    desk_exchanges::plays(rt.alloc(), desk_exchanges::REPORTS)
 }
