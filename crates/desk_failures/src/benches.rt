@@ -11,36 +11,55 @@ use wires::{After, Pieces, Unseen};
 /// A desk over a store.
 pub type Bench<S> = Unseen<Desk<S>>;
 
-/// One that is made over a connection; or why there is none, and the connection.
-pub fn created<S: Alter + Drop>(
-    alloc: Global,
-    conn: Connection<S>,
-) -> Result<Bench<S>, (Refusal, Connection<S>)> {
+/// A desk; or why there is none, and the connection, unless its store can't be opened again.
+pub type Opening<S> = Result<Bench<S>, (Refusal, Option<Connection<S>>)>;
+
+/// How a desk is had over a connection.
+#[derive(Clone, Copy)]
+pub enum Had {
+    /// It is made.
+    Made,
+    /// It is opened.
+    Opened,
+    /// It is opened over what a stop leaves.
+    OpenedAgain,
+}
+
+// One that is made over a connection.
+fn created<S: Alter + Drop>(alloc: Global, conn: Connection<S>) -> Opening<S> {
     match Desk::create(alloc, conn) {
         Ok(held) => Ok(Unseen { held }),
-        Err(left) => Err(left),
+        Err((refusal, conn)) => Err((refusal, Some(conn))),
     }
 }
 
-/// The one that is opened over a connection; or why there is none, and the connection.
-pub fn opened<S: Alter + Drop>(
-    alloc: Global,
-    conn: Connection<S>,
-) -> Result<Bench<S>, (Refusal, Connection<S>)> {
+// The one that is opened over a connection.
+fn opened<S: Alter + Drop>(alloc: Global, conn: Connection<S>) -> Opening<S> {
     match Desk::open(alloc, conn) {
         Ok(held) => Ok(Unseen { held }),
-        Err(left) => Err(left),
+        Err((refusal, conn)) => Err((refusal, Some(conn))),
     }
 }
 
-/// The one that is opened over what a stop left.
-pub fn opened_again<S: Alter + Reopen + Drop>(
+// The one that is opened over what a stop leaves.
+fn opened_again<S: Alter + Reopen + Drop>(alloc: Global, conn: Connection<S>) -> Opening<S> {
+    match open_again(alloc, conn) {
+        Ok(Ok(held)) => Ok(Unseen { held }),
+        Ok(Err((refusal, conn))) => Err((refusal, Some(conn))),
+        Err(_) => Err((Refusal::Store, None)),
+    }
+}
+
+/// The desk that is had so over a connection.
+pub fn desk_over<S: Alter + Reopen + Drop>(
     alloc: Global,
     conn: Connection<S>,
-) -> Option<Bench<S>> {
-    match open_again(alloc, conn) {
-        Ok(Ok(held)) => Some(Unseen { held }),
-        _ => None,
+    had: Had,
+) -> Opening<S> {
+    match had {
+        Had::Made => created(alloc, conn),
+        Had::Opened => opened(alloc, conn),
+        Had::OpenedAgain => opened_again(alloc, conn),
     }
 }
 

@@ -1,42 +1,13 @@
 // A database over two files in memory, one of which passes so many calls on, and fails each one after.
-use sqlite::{Connection, FileStore, Files, Options};
+use super::deeds::{Deed, Played, done};
+use super::replies::Came;
+use sqlite::{Connection, Files, Options};
 use sqlite_disk::{Crash, Disk, Fuse, Memory};
 use std::alloc::{AllocError, Global};
 use std::io;
 
-/// The store over two such files.
-pub type FusedStore = FileStore<Fuse<Memory>>;
-
-/// The two files, open or not.
-pub type FusedFiles = Files<Fuse<Memory>>;
-
-/// Which of the files fails, and after how many calls.
-#[derive(Clone, Copy, Debug)]
-pub struct Stop {
-    pub is_log: bool,
-    pub calls: u64,
-}
-
-impl Stop {
-    /// None: both files pass all calls on.
-    pub const NEVER: Stop = Stop {
-        is_log: true,
-        calls: u64::MAX,
-    };
-
-    // How many calls the log passes on.
-    fn calls_of_log(self) -> u64 {
-        if self.is_log { self.calls } else { u64::MAX }
-    }
-
-    // How many the database's file passes on.
-    fn calls_of_db(self) -> u64 {
-        if self.is_log { u64::MAX } else { self.calls }
-    }
-}
-
 /// How the files stand after a stop: as they were last synced, where they lose what wasn't, or as they were last written.
-#[derive(Clone, Copy, Debug)]
+#[derive(Clone, Copy)]
 pub struct End {
     log_loses: bool,
     db_loses: bool,
@@ -68,6 +39,46 @@ impl End {
     };
 }
 
+/// Which of the files fails, after how many calls, and how both stand afterwards; and whether each transaction first copies what
+/// the log holds into the database's file.
+#[derive(Clone, Copy)]
+pub struct Stop {
+    pub is_log: bool,
+    pub calls: u64,
+    pub end: End,
+    pub copies: bool,
+}
+
+impl Stop {
+    /// None: both files pass all calls on.
+    pub fn never(copies: bool) -> Stop {
+        Stop {
+            is_log: true,
+            calls: u64::MAX,
+            end: End::KILLED,
+            copies,
+        }
+    }
+
+    // How many calls a file passes on.
+    fn calls_of(self, is_log: bool) -> u64 {
+        if self.is_log == is_log {
+            self.calls
+        } else {
+            u64::MAX
+        }
+    }
+
+    // How a database is opened.
+    fn options(self) -> Options {
+        let mut options = Options::new(7);
+        if self.copies {
+            options.checkpoint_frames = 1;
+        }
+        options
+    }
+}
+
 /// What stands in the two files.
 #[derive(Drop)]
 pub struct Bytes {
@@ -75,17 +86,25 @@ pub struct Bytes {
     db: Vec<u8>,
 }
 
-// A file with these bytes, which passes each call on.
-fn sound_file(alloc: Global, bytes: &[u8]) -> io::Result<Fuse<Memory>> {
-    let mut file = Fuse::new(Memory::new(alloc), u64::MAX);
-    if file.may_be_used() {
-        file.write_at(0, bytes)?;
+impl Bytes {
+    /// Nothing.
+    pub fn none(alloc: Global) -> Bytes {
+        Bytes {
+            log: Vec::new(alloc),
+            db: Vec::new(alloc),
+        }
     }
-    Ok(file)
 }
 
-// A file in which these bytes stand, synced.
-fn synced_file(alloc: Global, bytes: &[u8]) -> io::Result<Memory> {
+/// How far lines came over two files, and what stands in these then.
+#[derive(Drop)]
+pub struct Left {
+    pub played: Played,
+    pub bytes: Bytes,
+}
+
+// A file in which these bytes stand, synced, and which passes so many calls on.
+fn file_with(alloc: Global, bytes: &[u8], calls: u64) -> io::Result<Fuse<Memory>> {
     let mut file = Memory::new(alloc);
     if file.may_be_used() {
         file.write_at(0, bytes)?;
@@ -93,93 +112,72 @@ fn synced_file(alloc: Global, bytes: &[u8]) -> io::Result<Memory> {
     if file.may_be_used() {
         file.sync()?;
     }
-    Ok(file)
+    Ok(Fuse::new(file, calls))
 }
 
-// A file after the stop, where it may lose what wasn't synced.
-fn end_file(file: &mut Fuse<Memory>, loses: bool) {
+// Two files in which this stands, synced, and which stop so.
+fn files_with(alloc: Global, bytes: &Bytes, stop: Stop) -> io::Result<Files<Fuse<Memory>>> {
+    Ok(Files {
+        log: file_with(alloc, &bytes.log, stop.calls_of(true))?,
+        db: file_with(alloc, &bytes.db, stop.calls_of(false))?,
+    })
+}
+
+// What stands in a file, which may lose what wasn't synced.
+fn bytes_in(alloc: Global, mut file: Fuse<Memory>, loses: bool) -> Result<Vec<u8>, AllocError> {
     if loses {
         file.crash();
     }
+    file.inner().bytes().to_vec(alloc)
 }
 
-// How a database is opened.
-fn options(copies: bool) -> Options {
-    let mut options = Options::new(7);
-    if copies {
-        options.checkpoint_frames = 1;
-    }
-    options
-}
-
-// Two files without a byte, which stop so.
-fn blank_files(alloc: Global, stop: Stop) -> FusedFiles {
-    Files {
-        log: Fuse::new(Memory::new(alloc), stop.calls_of_log()),
-        db: Fuse::new(Memory::new(alloc), stop.calls_of_db()),
-    }
-}
-
-/// Two files in which this stands, synced, and which stop so.
-pub fn files_with(alloc: Global, bytes: &Bytes, stop: Stop) -> io::Result<FusedFiles> {
-    Ok(Files {
-        log: Fuse::new(synced_file(alloc, &bytes.log)?, stop.calls_of_log()),
-        db: Fuse::new(synced_file(alloc, &bytes.db)?, stop.calls_of_db()),
-    })
-}
-
-/// The connection to these files, of which each transaction first copies what the log holds into the database's file, or
-/// doesn't; or the files, where it can't be had.
-pub fn connected(
-    alloc: Global,
-    files: FusedFiles,
-    copies: bool,
-) -> Result<Connection<FusedStore>, FusedFiles> {
-    if !files.log.may_be_used() || !files.db.may_be_used() {
-        return Err(files);
-    }
-    match Connection::open_files(alloc, files, options(copies)) {
-        Ok(conn) => Ok(conn),
-        Err((_, left)) => Err(left.into_files()),
-    }
-}
-
-/// The files of a connection, without a further call of the disk.
-pub fn files_of(conn: Connection<FusedStore>) -> FusedFiles {
-    conn.into_store().close()
-}
-
-/// A copy of what stands in these files.
-pub fn bytes_of(alloc: Global, files: &FusedFiles) -> Result<Bytes, AllocError> {
+// What stands in files once they stand so.
+fn bytes_left(alloc: Global, files: Files<Fuse<Memory>>, end: End) -> Result<Bytes, AllocError> {
+    let Files { log, db } = files;
     Ok(Bytes {
-        log: files.log.inner().bytes().to_vec(alloc)?,
-        db: files.db.inner().bytes().to_vec(alloc)?,
+        log: bytes_in(alloc, log, end.log_loses)?,
+        db: bytes_in(alloc, db, end.db_loses)?,
     })
 }
 
-/// The connection to two files without a byte; or the files, where they stop before it is there.
-pub fn begun(alloc: Global, stop: Stop) -> Result<Connection<FusedStore>, FusedFiles> {
-    connected(alloc, blank_files(alloc, stop), false)
+// Nothing is done, since files can't be opened.
+fn unopened(alloc: Global) -> Played {
+    Played {
+        at: 0,
+        came: Came::Store,
+        texts: Vec::new(alloc),
+    }
 }
 
-// The files as they stand, on a disk that works.
-fn copied(alloc: Global, files: &FusedFiles) -> io::Result<FusedFiles> {
-    Ok(Files {
-        log: sound_file(alloc, files.log.inner().bytes())?,
-        db: sound_file(alloc, files.db.inner().bytes())?,
-    })
-}
-
-/// The connection to what was left of the files, on a disk that works.
-pub fn connected_again(
+// Does this over files, which come back, without a further call of the disk, unless they are lost.
+fn done_over<D: Crash + Drop>(
     alloc: Global,
-    mut files: FusedFiles,
-    end: End,
-) -> Option<Connection<FusedStore>> {
-    end_file(&mut files.log, end.log_loses);
-    end_file(&mut files.db, end.db_loses);
-    match copied(alloc, &files) {
-        Ok(copy) => connected(alloc, copy, false).ok(),
+    files: Files<D>,
+    options: Options,
+    deed: &Deed<'_>,
+) -> (Option<Files<D>>, Played) {
+    if !files.log.may_be_used() || !files.db.may_be_used() {
+        return (Some(files), unopened(alloc));
+    }
+    match Connection::open_files(alloc, files, options) {
+        Ok(conn) => {
+            let (store, played) = done(alloc, conn, deed);
+            let files = match store {
+                Some(store) => Some(store.close()),
+                None => None,
+            };
+            (files, played)
+        }
+        Err((_, left)) => (Some(left.into_files()), unopened(alloc)),
+    }
+}
+
+/// Does this over two files in which this stands, and which stop so.
+pub fn done_on(alloc: Global, bytes: &Bytes, stop: Stop, deed: &Deed<'_>) -> Option<Left> {
+    let files = files_with(alloc, bytes, stop).ok()?;
+    let (files, played) = done_over(alloc, files, stop.options(), deed);
+    match bytes_left(alloc, files?, stop.end) {
+        Ok(bytes) => Some(Left { played, bytes }),
         Err(_) => None,
     }
 }

@@ -1,4 +1,5 @@
 // Desks that are stopped, and tables that are damaged.
+use desk_failures::{End, Stops};
 
 #[test]
 fn damaged_tables_are_not_opened(rt: HostRuntime) -> Result<(), &'static str> {
@@ -7,12 +8,12 @@ fn damaged_tables_are_not_opened(rt: HostRuntime) -> Result<(), &'static str> {
 
 #[test]
 fn a_process_killed_at_each_call(rt: HostRuntime) -> Result<(), &'static str> {
-    desk_failures::a_process_killed_at_each_call(rt.alloc())
+    desk_failures::the_night_is_stopped(rt.alloc(), End::KILLED)
 }
 
 #[test]
 fn the_power_cut_at_each_call(rt: HostRuntime) -> Result<(), &'static str> {
-    desk_failures::the_power_cut_at_each_call(rt.alloc())
+    desk_failures::the_night_is_stopped(rt.alloc(), End::POWER_CUT)
 }
 
 #[test]
@@ -22,40 +23,40 @@ fn the_power_cut_after_each_step(rt: HostRuntime) -> Result<(), &'static str> {
 
 #[test]
 fn an_opening_killed_at_each_call(rt: HostRuntime) -> Result<(), &'static str> {
-    desk_failures::an_opening_killed_at_each_call(rt.alloc())
+    desk_failures::the_opening_is_stopped(rt.alloc(), End::KILLED)
 }
 
 #[test]
 fn an_opening_cut_at_each_call(rt: HostRuntime) -> Result<(), &'static str> {
-    desk_failures::an_opening_cut_at_each_call(rt.alloc())
+    desk_failures::the_opening_is_stopped(rt.alloc(), End::POWER_CUT)
 }
 
 #[test]
 fn each_kind_killed_at_each_call(rt: HostRuntime) -> Result<(), &'static str> {
-    desk_failures::each_kind_killed_at_each_call(rt.alloc())
+    desk_failures::each_kind_is_stopped(rt.alloc(), Stops::Once(End::KILLED))
 }
 
 #[test]
 fn each_kind_cut_at_each_call(rt: HostRuntime) -> Result<(), &'static str> {
-    desk_failures::each_kind_cut_at_each_call(rt.alloc())
+    desk_failures::each_kind_is_stopped(rt.alloc(), Stops::Once(End::POWER_CUT))
 }
 
 #[test]
 fn each_kind_where_the_log_loses(rt: HostRuntime) -> Result<(), &'static str> {
-    desk_failures::each_kind_where_the_log_loses(rt.alloc())
+    desk_failures::each_kind_is_stopped(rt.alloc(), Stops::Once(End::LOG_LOSES))
 }
 
 #[test]
 fn each_kind_where_the_database_loses(rt: HostRuntime) -> Result<(), &'static str> {
-    desk_failures::each_kind_where_the_database_loses(rt.alloc())
+    desk_failures::each_kind_is_stopped(rt.alloc(), Stops::Once(End::DATABASE_LOSES))
 }
 
 #[test]
 fn an_opening_cut_after_each_stop_of_the_log(rt: HostRuntime) -> Result<(), &'static str> {
-    desk_failures::an_opening_cut_after_each_stop_of_the_log(rt.alloc())
+    desk_failures::each_kind_is_stopped(rt.alloc(), Stops::Twice(true))
 }
 
 #[test]
 fn an_opening_cut_after_each_stop_of_the_database(rt: HostRuntime) -> Result<(), &'static str> {
-    desk_failures::an_opening_cut_after_each_stop_of_the_database(rt.alloc())
+    desk_failures::each_kind_is_stopped(rt.alloc(), Stops::Twice(false))
 }

@@ -1,5 +1,4 @@
 // Want of memory: calls without any, and calls that are made again and again while all memory is given back block by block.
-use desk_failures::want;
 use nights::plans;
 
 #[test]
@@ -44,27 +43,27 @@ fn nights_in_want_of_memory(rt: HostRuntime) -> Result<(), &'static str> {
 
 #[test]
 fn a_failed_run_is_run_again(rt: HostRuntime) -> Result<(), &'static str> {
-    want::a_failed_run_is_run_again(rt.alloc())
+    desk_failures::played_in_want(rt.alloc(), desk_failures::FAILED_RUN)
 }
 
 #[test]
 fn a_night_to_its_end(rt: HostRuntime) -> Result<(), &'static str> {
-    want::a_night_to_its_end(rt.alloc())
+    desk_failures::played_in_want(rt.alloc(), desk_failures::WHOLE_NIGHT)
 }
 
 #[test]
 fn a_night_is_deleted(rt: HostRuntime) -> Result<(), &'static str> {
-    want::a_night_is_deleted(rt.alloc())
+    desk_failures::played_in_want(rt.alloc(), desk_failures::DELETED_NIGHT)
 }
 
 #[test]
 fn reports_of_a_tracker(rt: HostRuntime) -> Result<(), &'static str> {
-    want::reports_of_a_tracker(rt.alloc())
+    desk_failures::played_in_want(rt.alloc(), desk_failures::REPORTS)
 }
 
 #[test]
 fn tables_of_the_first_version_are_opened(rt: HostRuntime) -> Result<(), &'static str> {
-    want::tables_of_the_first_version_are_opened(rt.alloc())
+    desk_failures::played_in_want(rt.alloc(), desk_failures::FIRST_VERSION)
 }
 
 #[test]

@@ -1,4 +1,5 @@
 // The turns of a script.
+use super::benches::Had;
 use super::exchanges::Exchange;
 use plan_records::Request;
 use std::alloc::Global;
@@ -8,13 +9,17 @@ use wires::NIGHT;
 /// A turn.
 #[derive(Drop)]
 pub enum Turn<'a> {
-    Create,
+    /// A desk is made or opened.
+    Had(Had),
     /// The tables of the first version are made, with a night.
     First,
+    /// The tables are changed by a text.
+    Sql(&'a str),
+    /// The desk is closed.
     Close,
-    Open,
     /// What an operator asks of the desk, and what is told.
     Asked(Request, &'a str),
+    /// What is sent to it.
     Sent(Exchange),
 }
 
@@ -34,19 +39,27 @@ impl Turn<'_> {
     }
 }
 
+// The body of a request, for which NIGHT may stand.
+fn body_of(body: &str) -> &str {
+    match body {
+        "NIGHT" => NIGHT,
+        _ => body,
+    }
+}
+
 // What an operator asks by a body.
 fn asked<'a>(alloc: Global, body: &str, told: &'a str) -> Option<Turn<'a>> {
-    let text = if body == "NIGHT" { NIGHT } else { body };
-    match read_operator(alloc, text.as_bytes()) {
+    match read_operator(alloc, body_of(body).as_bytes()) {
         Ok(Some(request)) => Some(Turn::Asked(request, told)),
         _ => None,
     }
 }
 
-// What a tracker sends.
-fn sent<'a>(alloc: Global, body: &str, told: &str) -> Option<Turn<'a>> {
+// What is sent to a desk, and what is told: a status and a body.
+fn sent<'a>(alloc: Global, request: &str, told: &str) -> Option<Turn<'a>> {
+    let (path, body) = request.split_once(' ')?;
     let (status, reply) = told.split_once(" | ")?;
-    match Exchange::report(alloc, body, status, reply) {
+    match Exchange::new(alloc, path, body_of(body), status, reply) {
         Some(exchange) => Some(Turn::Sent(exchange)),
         None => None,
     }
@@ -54,20 +67,24 @@ fn sent<'a>(alloc: Global, body: &str, told: &str) -> Option<Turn<'a>> {
 
 // The turn of a line that says what is told.
 fn told<'a>(alloc: Global, line: &'a str) -> Option<Turn<'a>> {
-    let (body, told) = line.split_once(" | ")?;
-    match body.strip_prefix("/report ") {
-        Some(body) => sent(alloc, body, told),
-        None => asked(alloc, body, told),
+    let (request, told) = line.split_once(" | ")?;
+    if request.starts_with('{') || request == "NIGHT" {
+        asked(alloc, request, told)
+    } else {
+        sent(alloc, request, told)
     }
 }
 
 /// The turn of a line.
 pub fn turn_of<'a>(alloc: Global, line: &'a str) -> Option<Turn<'a>> {
     match line {
-        "create" => Some(Turn::Create),
+        "create" => Some(Turn::Had(Had::Made)),
+        "open" => Some(Turn::Had(Had::Opened)),
         "first" => Some(Turn::First),
         "close" => Some(Turn::Close),
-        "open" => Some(Turn::Open),
-        _ => told(alloc, line),
+        _ => match line.strip_prefix("sql ") {
+            Some(sql) => Some(Turn::Sql(sql)),
+            None => told(alloc, line),
+        },
     }
 }

@@ -3,12 +3,56 @@
 //     create                          a desk is made over a database without tables
 //     first                           the tables of the first version are made there, with a night in which bills have come in
 //     close                           the desk is closed
-//     open                            it is opened again
+//     open                            it is opened
+//     sql TEXT                        the tables are changed, where no desk is open
 //     BODY | names KEY ..             what an operator asks of the desk, and the operations that are named, or the refusal
 //     BODY | refused NAME
-//     /report BODY | STATUS | REPLY   what a tracker sends over HTTP, and its reply
+//     PATH BODY | STATUS | REPLY      what is sent over HTTP, and its reply
+//     GET PATH | STATUS | REPLY
 //
-// NIGHT stands for the body that loads the night at 21:00. A turn behind `+ ` is made with memory.
+// NIGHT stands for the body that loads the night at 21:00. In want of memory a turn behind `+ ` is made with memory.
+
+/// What is stopped: the tables are made, a night is loaded, a tracker reports four times, and the plan is extended twice. Each
+/// time an occurrence comes in that is complete at once, as its only operation reports nothing and comes after one that is
+/// complete; the second time the first of them leaves, with its dependency and its need of two. A turn that an operator asks may
+/// be asked again, once it is carried out: the load is refused then, and what came in leaves and comes in again.
+pub const SCRIPT: &str = r#"create
+/operator NIGHT | 200 OK | {"named":[]}
+/report {"tracker":"T1","number":1,"at":"2024-03-01T22:00","do":"started","op":"PAYROLL/2024-03-01T22:00/005"} | 200 OK | {"named":[]}
+/report {"tracker":"T1","number":2,"at":"2024-03-01T22:10","do":"ended","op":"PAYROLL/2024-03-01T22:00/005"} | 200 OK | {"named":["PAYROLL/2024-03-01T22:00/010"]}
+/report {"tracker":"T1","number":3,"at":"2024-03-01T22:11","do":"started","op":"PAYROLL/2024-03-01T22:00/010"} | 200 OK | {"named":[]}
+/report {"tracker":"T1","number":4,"at":"2024-03-01T22:40","do":"ended","op":"PAYROLL/2024-03-01T22:00/010"} | 200 OK | {"named":["PAYROLL/2024-03-01T22:00/020"]}
+/operator {"at":"2024-03-01T22:45","do":"extend","records":"O,CHECKS,2024-03-01T22:00,5,2024-03-02T05:00,,,,,\nP,CHECKS,2024-03-01T22:00,90,DUMM,1,0,0,,\nD,PAYROLL,2024-03-01T22:00,5,CHECKS,2024-03-01T22:00,90,,,\nN,CHECKS,2024-03-01T22:00,90,CUSTFILE,S,F,2,,\n"} | 200 OK | {"named":[]}
+/operator {"at":"2024-03-01T22:50","do":"extend","records":"O,AUDITS,2024-03-01T22:00,5,2024-03-02T05:00,,,,,\nP,AUDITS,2024-03-01T22:00,90,DUMM,1,0,0,,\nD,PAYROLL,2024-03-01T22:00,5,AUDITS,2024-03-01T22:00,90,,,\nN,AUDITS,2024-03-01T22:00,90,CUSTFILE,S,F,2,,\n"} | 200 OK | {"named":[]}"#;
+
+/// Tables of the first version are opened, and then the second run ends, and the printing.
+pub const OPENING: &str = r#"open
+/report {"tracker":"T1","number":5,"at":"2024-03-01T23:40","do":"ended","op":"PAYROLL/2024-03-01T22:00/020"} | 200 OK | {"named":["BILLING/2024-03-01T22:00/010"]}
+/report {"tracker":"T1","number":6,"at":"2024-03-01T23:50","do":"ended","op":"PAYROLL/2024-03-01T22:00/040"} | 200 OK | {"named":[]}"#;
+
+/// A request of each kind, and one more report of a start, each accepted once those before it are carried out: a load, a tick,
+/// what operators command while all wait, a tracker's reports with a rerun among them, and what comes into the plan and leaves
+/// it.
+pub const KINDS: &str = r#"/operator NIGHT | 200 OK | {"named":[]}
+/operator {"at":"2024-03-01T21:30","do":"tick"} | 200 OK | {"named":[]}
+/operator {"at":"2024-03-01T21:31","do":"hold","op":"PAYROLL/2024-03-01T22:00/040"} | 200 OK | {"named":[]}
+/operator {"at":"2024-03-01T21:32","do":"release","op":"PAYROLL/2024-03-01T22:00/040"} | 200 OK | {"named":[]}
+/operator {"at":"2024-03-01T21:33","do":"nop","op":"PAYROLL/2024-03-01T22:00/020"} | 200 OK | {"named":[]}
+/operator {"at":"2024-03-01T21:34","do":"unnop","op":"PAYROLL/2024-03-01T22:00/020"} | 200 OK | {"named":[]}
+/operator {"at":"2024-03-01T21:35","do":"available","resource":"CUSTFILE","value":false} | 200 OK | {"named":[]}
+/operator {"at":"2024-03-01T21:36","do":"intervals","ws":"SETP","intervals":[["2024-03-01T22:00","2024-03-02T02:00",2,0,0]]} | 200 OK | {"named":[]}
+/report {"tracker":"T1","number":1,"at":"2024-03-01T22:00","do":"started","op":"PAYROLL/2024-03-01T22:00/005"} | 200 OK | {"named":[]}
+/report {"tracker":"T1","number":2,"at":"2024-03-01T22:02","do":"interrupted","op":"PAYROLL/2024-03-01T22:00/005"} | 200 OK | {"named":[]}
+/operator {"at":"2024-03-01T22:03","do":"rerun","op":"PAYROLL/2024-03-01T22:00/005"} | 200 OK | {"named":[]}
+/report {"tracker":"T1","number":3,"at":"2024-03-01T22:04","do":"started","op":"PAYROLL/2024-03-01T22:00/005"} | 200 OK | {"named":[]}
+/report {"tracker":"T1","number":4,"at":"2024-03-01T22:05","do":"unknown","op":"PAYROLL/2024-03-01T22:00/005"} | 200 OK | {"named":[]}
+/report {"tracker":"T1","number":5,"at":"2024-03-01T22:10","do":"ended","op":"PAYROLL/2024-03-01T22:00/005"} | 200 OK | {"named":["PAYROLL/2024-03-01T22:00/010"]}
+/report {"tracker":"T1","number":6,"at":"2024-03-01T22:20","do":"error","op":"PAYROLL/2024-03-01T22:00/010","code":"S0C7"} | 200 OK | {"named":[]}
+/operator {"at":"2024-03-01T22:25","do":"complete","op":"PAYROLL/2024-03-01T22:00/010"} | 200 OK | {"named":[]}
+/operator {"at":"2024-03-01T22:40","do":"add","records":"O,EXTRA,2024-03-01T22:00,5,2024-03-02T05:00,,,,,\nP,EXTRA,2024-03-01T22:00,10,PRT1,20,0,0,,\n"} | 200 OK | {"named":[]}
+/operator {"at":"2024-03-01T22:41","do":"depend","from":"PAYROLL/2024-03-01T22:00/040","to":"EXTRA/2024-03-01T22:00/010"} | 200 OK | {"named":[]}
+/operator {"at":"2024-03-01T22:42","do":"delete","occ":"EXTRA/2024-03-01T22:00"} | 200 OK | {"named":[]}
+/operator {"at":"2024-03-01T22:50","do":"extend","records":"O,AUDITS,2024-03-01T22:00,5,2024-03-02T05:00,,,,,\nP,AUDITS,2024-03-01T22:00,10,PRT1,20,0,0,,\nN,AUDITS,2024-03-01T22:00,10,CUSTFILE,S,F,2,,\n"} | 200 OK | {"named":[]}"#;
 
 /// The second run fails, when the bills are in that wait for its file, and is to run again: the bills go first.
 pub const FAILED_RUN: &str = r#"create

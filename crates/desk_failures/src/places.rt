@@ -1,0 +1,188 @@
+// Where turns are made: a connection, and the desk over it.
+use super::benches::{Bench, Had, Opening, called, closed, desk_over};
+use super::exchanges::{Exchange, lists};
+use super::replies::{Came, came_of, outcome};
+use super::turns::{Turn, turn_of};
+use plan_records::Request;
+use sqlite::{Alter, Connection};
+use sqlite_trees::store::Reopen;
+use std::alloc::Global;
+use wires::{makes_first_night, tables_text};
+
+/// The connection to a database where no desk is open over it, or else the desk.
+#[derive(Drop)]
+pub struct Place<S: Alter + Reopen + Drop> {
+    conn: Option<Connection<S>>,
+    desk: Option<Bench<S>>,
+}
+
+// What a desk makes of an operator's request.
+fn asked<S: Alter + Drop>(bench: &mut Bench<S>, request: &Request, told: &str) -> Came {
+    let reply = called(bench, request);
+    outcome(&reply, told)
+}
+
+// Changes the tables by a text, or makes those of the first version, with a night.
+fn changed<S: Alter>(conn: &mut Connection<S>, sql: Option<&str>) -> Came {
+    let is_changed = match sql {
+        Some(sql) => conn.execute_batch(sql).is_ok(),
+        None => makes_first_night(conn),
+    };
+    if is_changed {
+        Came::Done
+    } else {
+        Came::Otherwise
+    }
+}
+
+impl<S: Alter + Reopen + Drop> Place<S> {
+    /// A connection without a desk.
+    pub fn over(conn: Connection<S>) -> Place<S> {
+        Place {
+            conn: Some(conn),
+            desk: None,
+        }
+    }
+
+    /// The store below it, unless that is lost.
+    pub fn into_store(self) -> Option<S> {
+        let Place { conn, desk } = self;
+        let left = match desk {
+            Some(desk) => Some(closed(desk)),
+            None => conn,
+        };
+        match left {
+            Some(conn) => Some(conn.into_store()),
+            None => None,
+        }
+    }
+
+    // Keeps what a desk's making or opening gives.
+    fn keep(&mut self, opening: Opening<S>) -> Came {
+        match opening {
+            Ok(desk) => {
+                self.desk = Some(desk);
+                Came::Done
+            }
+            Err((refusal, conn)) => {
+                self.conn = conn;
+                came_of(refusal)
+            }
+        }
+    }
+
+    // Makes or opens a desk over the connection.
+    fn have(&mut self, alloc: Global, had: Had) -> Came {
+        match self.conn.take() {
+            Some(conn) => self.keep(desk_over(alloc, conn, had)),
+            None => Came::Otherwise,
+        }
+    }
+
+    // Changes the tables below no desk.
+    fn change(&mut self, sql: Option<&str>) -> Came {
+        match &mut self.conn {
+            Some(conn) => changed(conn, sql),
+            None => Came::Otherwise,
+        }
+    }
+
+    // Closes the desk.
+    fn close(&mut self) -> Came {
+        match self.desk.take() {
+            Some(desk) => {
+                self.conn = Some(closed(desk));
+                Came::Done
+            }
+            None => Came::Otherwise,
+        }
+    }
+
+    // Asks the desk.
+    fn ask(&mut self, request: &Request, told: &str) -> Came {
+        match &mut self.desk {
+            Some(desk) => asked(desk, request, told),
+            None => Came::Otherwise,
+        }
+    }
+
+    // Makes an exchange with the desk.
+    fn send(&mut self, alloc: Global, exchange: &Exchange) -> Came {
+        match &mut self.desk {
+            Some(desk) => exchange.make(alloc, desk),
+            None => Came::Otherwise,
+        }
+    }
+
+    /// What comes of a turn.
+    pub fn make(&mut self, alloc: Global, turn: &Turn<'_>) -> Came {
+        match turn {
+            Turn::Had(had) => self.have(alloc, *had),
+            Turn::First => self.change(None),
+            Turn::Sql(sql) => self.change(Some(sql)),
+            Turn::Close => self.close(),
+            Turn::Asked(request, told) => self.ask(request, told),
+            Turn::Sent(exchange) => self.send(alloc, exchange),
+        }
+    }
+
+    /// What comes of the turn of a line.
+    pub fn make_line(&mut self, alloc: Global, line: &str) -> Came {
+        match turn_of(alloc, line) {
+            Some(turn) => self.make(alloc, &turn),
+            None => Came::Otherwise,
+        }
+    }
+
+    // What the tables below no desk hold.
+    fn text(&mut self, alloc: Global) -> Option<Vec<u8>> {
+        match &mut self.conn {
+            Some(conn) => tables_text(alloc, conn).ok(),
+            None => None,
+        }
+    }
+
+    /// Closes the desk where one is open. Returns what the tables hold.
+    pub fn tables(&mut self, alloc: Global) -> Option<Vec<u8>> {
+        let _ = self.close();
+        self.text(alloc)
+    }
+
+    /// What the tables hold: where a desk is open, it is closed meanwhile, and had so again.
+    pub fn look(&mut self, alloc: Global, had: Had) -> Option<Vec<u8>> {
+        if self.desk.is_none() {
+            return self.text(alloc);
+        }
+        let text = self.tables(alloc);
+        match self.have(alloc, had) {
+            Came::Done => text,
+            _ => None,
+        }
+    }
+
+    // What the desk lists; nothing where none is open.
+    fn lists(&mut self, alloc: Global) -> Option<Vec<u8>> {
+        match &mut self.desk {
+            Some(desk) => lists(alloc, desk),
+            None => Some(Vec::new(alloc)),
+        }
+    }
+
+    /// What a desk lists, and then, whether one is open or not, what the tables hold.
+    pub fn shown(&mut self, alloc: Global) -> Option<Vec<u8>> {
+        let mut text = self.lists(alloc)?;
+        let tables = self.look(alloc, Had::Opened)?;
+        match text.extend_from_slice(&tables) {
+            Ok(()) => Some(text),
+            Err(_) => None,
+        }
+    }
+
+    /// Whether this is shown.
+    pub fn shows(&mut self, alloc: Global, text: &[u8]) -> bool {
+        match self.shown(alloc) {
+            Some(shown) => shown.as_slice() == text,
+            None => false,
+        }
+    }
+}
