@@ -56,6 +56,4 @@ shows ACCSWWR WSW
 AT_ONCE after BILLS_IN: what comes in may start at once. It is named at once where it may start.
 keys BILLING.10 5 10 20 30 40 REPORTS.10 / BILLING PAYROLL REPORTS
 22:50 add COMPUTED | names REPORTS.10
-shows ACCSWWS WSS
-
-";
+shows ACCSWWS WSS";

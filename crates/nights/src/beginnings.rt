@@ -69,4 +69,31 @@ keys AAA.10 BBB.10 CCC.10 / AAA BBB CCC
 22:20 ended CCC.10 | names BBB.10
 22:50 ended BBB.10 | names -
 
-";
+BILLS_IN_BY_A_TRACKER: the bills are in, and a tracker has a receipt
+21:00 load STATIONS RUNS PRINTING CHAIN LAST FILE KEEPS | names -
+22:00 started 5 | names -
+22:10 ended 5 | names 10
+22:40 ended 10 | names 20
+22:45 add BILLS | names -
+tables RECEIPT
+
+PAYROLL_OVER_BY_A_TRACKER: the night is over, the bills run, and a tracker has a receipt
+21:00 load STATIONS RUNS PRINTING CHAIN LAST FILE KEEPS | names -
+22:00 started 5 | names -
+22:10 ended 5 | names 10
+22:40 ended 10 | names 20
+22:45 add BILLS | names -
+23:40 ended 20 | names BILLING.10
+23:50 ended 40 | names -
+tables RECEIPT
+
+FIRST: tables of the first version, by hand: the night when the bills are in, and a tracker has a receipt
+fresh
+tables FIRST_TABLES
+tables FIRST_NIGHT
+tables RECEIPT
+
+FIRST_EMPTY: tables of the first version, by hand: nothing is loaded
+fresh
+tables FIRST_TABLES
+tables FIRST_EMPTY";

@@ -83,8 +83,7 @@ FEWER_SERVERS: fewer servers than are taken
 keys AAA.10 BBB.10 CCC.10 / AAA BBB CCC
 22:00 load OPEN FIXED | names AAA.10 CCC.10
 22:05 open CPU1 22:00 06:00 1 3 0,05:59 07:00 1 3 0 | refused 21
-22:05 open-times 401 CPU1 22:00 06:00 1 3 0 | refused 20
-22:05 open-times 401 CPU2 22:00 06:00 1 3 0 | refused 7
+22:05 open CPU2 22:00 06:00 1 3 0 | refused 7
 22:05 open CPU1 22:00 06:00 1 3 0 | names -
 22:10 ended AAA.10 | names -
 22:20 ended CCC.10 | names BBB.10
@@ -98,6 +97,4 @@ keys AAA.10 BBB.10 CCC.10 / AAA BBB CCC
 22:20 ended CCC.10 | names -
 shows CAC CWC
 22:30 open CPU1 22:00 06:00 1 3 0 | names BBB.10
-shows CSC CSC
-
-";
+shows CSC CSC";

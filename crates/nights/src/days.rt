@@ -68,6 +68,4 @@ duration DAILY.20 60
 priority DAILY.20 5
 waits DAILY.20 1
 due DAILY.20 05:00
-no-operation DAILY.30
-
-";
+no-operation DAILY.30";

@@ -1,23 +1,30 @@
-// Nights at a desk over a store in memory: played by `run_all`, and by `call` with the desk closed and opened again after
-// each request; numbered calls; what the tables hold, in both versions, and how many rows are written. Each public function
-// plays one matter, and its error is the line or the row that goes otherwise.
+// Nights at a desk in a database in memory, over which one is opened for each line: of all topics, numbered calls, what the tables
+// hold, in both versions, and how many rows are written.
 mod benches;
-mod cases;
+mod changes;
 mod counted;
-mod numbered;
-mod players;
-mod plays;
-mod stored;
+mod lines;
+mod numbers;
+mod tables;
 mod versions;
 mod written;
 
-pub use numbered::{a_texts_length, numbered_requests};
-pub use plays::{nights_at_once, nights_opened_again_after_each_turn, two_chains_at_a_desk};
-pub use stored::{
-    name_of_a_table_is_taken, operation_in_error_is_handed_out, waiting_predecessors_are_stored,
-};
-pub use versions::{changes_of_tables, tables_of_the_first_version_are_opened};
+use super::playing::{Deviation, pass};
+pub use changes::changes_of_tables;
+pub use numbers::NUMBERS;
+use std::alloc::Global;
+pub use versions::VERSIONS;
 pub use written::rows_that_are_written;
 
-/// What a play fails for where it is no difference.
-const FAILED: &str = "no memory";
+/// Plays nights at a desk.
+pub fn nights_at_a_desk(alloc: Global, nights: &'static str) -> Result<(), Deviation<'static>> {
+    pass::<tables::Tables>(alloc, nights)
+}
+
+/// Plays the nights of these topics at a desk.
+pub fn nights_of_topics(alloc: Global, topics: &[&'static str]) -> Result<(), Deviation<'static>> {
+    for nights in topics {
+        nights_at_a_desk(alloc, *nights)?;
+    }
+    Ok(())
+}

@@ -135,6 +135,4 @@ shows SA SW
 23:20 ended DDD.10 | names -
 23:20 extend IN_TURN HALF_HOURS ONE_TWO_ONE | names AAA.10 CCC.10
 keys AAA.10 BBB.10 CCC.10 / AAA BBB CCC
-shows SAS SWS
-
-";
+shows SAS SWS";

@@ -101,6 +101,4 @@ shows DAW DWW
 waits CCC.10 1
 22:00 ended BBB.10 | names -
 shows DCR DCW
-waits CCC.10 0
-
-";
+waits CCC.10 0";

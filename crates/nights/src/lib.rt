@@ -1,5 +1,5 @@
 //! Worked nights, as texts that read like an operator's log: requests in turn, each with its answer, and what the plan
-//! shows afterwards. They are read here, and played by whatever answers requests (`Player`): a plan in memory (plans), or a
+//! shows afterwards. They are read here, and played by whatever goes by their lines (`Player`): a plan in memory (plans), or a
 //! desk (desks). Only the crate of tests stands on this one.
 #![tactic(auto)]
 
@@ -11,7 +11,6 @@ mod days;
 pub mod desks;
 mod extensions;
 mod latest;
-mod long_chains;
 mod looks;
 mod names;
 mod pairs;
@@ -27,3 +26,4 @@ mod topics;
 mod words;
 
 pub use playing::{Deviation, Player};
+pub use topics::{BY_COMMANDS, BY_TIME, BY_WHAT_COMES_IN};

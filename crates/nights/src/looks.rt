@@ -1,7 +1,7 @@
 // Looks at a plan, and what they show.
 use super::names::{minute, moment_text, occurrence, operation, workstation};
 use super::words::{cut, listed};
-use plan_basics::{OpKey, WsName, minute_text};
+use plan_basics::{OpKey, minute_text};
 use plan_core::{OccView, OpView, Plan};
 use plan_records::Reply;
 use status_rules::Mark;
@@ -129,71 +129,4 @@ fn has_number(view: &OpView, column: &str, number: i64) -> Option<bool> {
         "priority" => Some(i64::from(view.priority) == number),
         _ => None,
     }
-}
-
-// Whether two views of operations are equal.
-fn is_same_operation(one: &OpView, other: &OpView) -> bool {
-    one.key == other.key
-        && one.workstation == other.workstation
-        && one.mark == other.mark
-        && one.held == other.held
-        && one.nop == other.nop
-        && one.priority == other.priority
-        && one.status == other.status
-        && one.latest == other.latest
-        && one.waiting == other.waiting
-}
-
-// Whether two views of occurrences are equal.
-fn is_same_occurrence(one: &OccView, other: &OccView) -> bool {
-    one.key == other.key
-        && one.priority == other.priority
-        && one.deadline == other.deadline
-        && one.status == other.status
-        && one.operations == other.operations
-        && one.complete == other.complete
-}
-
-// The loop compares marks itself, too: else the check doesn't learn their type, and refuses the function.
-fn shows_same_operations(one: &Plan, other: &Plan) -> Option<bool> {
-    let mut others = other.ops();
-    for view in one.ops() {
-        let like = others.next()?;
-        if view.mark != like.mark || !is_same_operation(&view, &like) {
-            return None;
-        }
-    }
-    Some(others.next().is_none())
-}
-
-fn shows_same_occurrences(one: &Plan, other: &Plan) -> Option<bool> {
-    let mut others = other.occs();
-    for view in one.occs() {
-        let like = others.next()?;
-        if !is_same_occurrence(&view, &like) {
-            return None;
-        }
-    }
-    Some(others.next().is_none())
-}
-
-/// Whether two plans show the same as ready at a workstation. Nothing where they don't, or have no such workstation.
-pub fn is_ready_alike(one: &Plan, other: &Plan, name: &WsName) -> Option<bool> {
-    let mut others = other.ready(name)?;
-    for view in one.ready(name)? {
-        let like = others.next()?;
-        if view.mark != like.mark || !is_same_operation(&view, &like) {
-            return None;
-        }
-    }
-    Some(others.next().is_none())
-}
-
-/// Whether two plans show the same: the clock, all operations and all occurrences.
-pub fn is_like(one: &Plan, other: &Plan) -> Option<bool> {
-    Some(
-        one.clock() == other.clock()
-            && shows_same_operations(one, other)?
-            && shows_same_occurrences(one, other)?,
-    )
 }

@@ -60,6 +60,4 @@ shows ADA WDW
 21:00 add ROUND | refused 19
 shows ADA WDW
 21:00 depend CCC.10 on AAA.10 | names -
-shows ADW WDW
-
-";
+shows ADW WDW";

@@ -36,6 +36,13 @@ N,PAYROLL,2024-03-01T22:00,20,CUSTFILE,X,K,,,
 FREES: the second run needs the file for itself, and an error frees it
 N,PAYROLL,2024-03-01T22:00,20,CUSTFILE,X,F,,,
 
+PRINTER: a workstation of completions alone
+W,PRT1,C,,,,,,,
+
+SET_UPS: an open workstation where an operator reports starts, with 20 servers
+W,SETP,S,,,,,,,
+I,SETP,2024-03-01T22:00,2024-03-02T06:00,20,0,0,,,
+
 BACK: the first operation is to come after the last
 D,PAYROLL,2024-03-01T22:00,40,PAYROLL,2024-03-01T22:00,5,,,
 
@@ -417,6 +424,4 @@ AFTER_THE_BILLS: the reports come after the bills
 D,BILLING,2024-03-01T22:00,10,REPORTS,2024-03-01T22:00,10,,,
 
 BEFORE_THE_SET_UP: they come before the set-up
-D,REPORTS,2024-03-01T22:00,10,PAYROLL,2024-03-01T22:00,5,,,
-
-";
+D,REPORTS,2024-03-01T22:00,10,PAYROLL,2024-03-01T22:00,5,,,";

@@ -152,6 +152,4 @@ latest 10 03:09
 latest 20 03:39
 latest 30 04:39
 latest 40 04:40
-like LOADED
-
-";
+like LOADED";

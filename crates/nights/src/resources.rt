@@ -71,6 +71,4 @@ keys AUDIT.10 BILLING.10 5 10 20 30 40 / AUDIT BILLING PAYROLL
 22:40 ended 10 | names -
 22:45 ended BILLING.10 | names 20
 23:00 error 20 S0C7 | names AUDIT.10
-shows SCCCEWW SCE
-
-";
+shows SCCCEWW SCE";

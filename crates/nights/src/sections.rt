@@ -1,4 +1,5 @@
-// Texts of sections: each has a line with its name and what it holds, then its lines, and an empty line.
+// Texts of sections: each has a line with its name and what it holds, then its lines; an empty line comes before the next.
+use super::crowds::push_crowd;
 use super::parts::PARTS;
 use super::words::{cut, listed};
 use std::alloc::Global;
@@ -12,24 +13,31 @@ fn lines_of<'a>(section: &'a str, name: &str) -> Option<&'a str> {
 
 /// The lines of the section of this name.
 pub fn section<'a>(text: &'a str, name: &str) -> Option<&'a str> {
-    let mut rest = text;
-    for _ in 0..text.len() {
-        let (section, after) = cut(rest, "\n\n")?;
+    for section in text.split("\n\n") {
         let lines = lines_of(section, name);
         if lines.is_some() {
             return lines;
         }
-        rest = after;
     }
     None
+}
+
+// Puts a part behind a text: by its name, or as many occurrences as are told behind that of their lines.
+fn push_part(text: &mut String, name: &str) -> Option<()> {
+    match cut(name, "*") {
+        Some((lines, counts)) => push_crowd(text, lines, counts),
+        None => {
+            text.push_str(section(PARTS, name)?).ok()?;
+            text.push('\n').ok()
+        }
+    }
 }
 
 /// The text that these parts make, one after another.
 pub fn joined(alloc: Global, names: &str) -> Option<String> {
     let mut text = String::new(alloc);
     for name in listed(names)?.split_whitespace() {
-        text.push_str(section(PARTS, name)?).ok()?;
-        text.push('\n').ok()?;
+        push_part(&mut text, name)?;
     }
     Some(text)
 }

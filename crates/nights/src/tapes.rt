@@ -106,6 +106,4 @@ NOT_IN after TAPES_IN: what needs more than there is does not come in, and chang
 22:05 add URGENT A_MILLION_DRIVES | refused 21
 22:05 add URGENT ALL_AND_ONE | refused 21
 21:59 add URGENT THREE_DRIVES | refused 1
-like TAPES_IN
-
-";
+like TAPES_IN";

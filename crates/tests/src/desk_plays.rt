@@ -1,54 +1,35 @@
 // Nights at a desk over a store in memory.
 use nights::desks;
+use std::test::Fail;
 
 #[test]
-fn a_texts_length(rt: HostRuntime) -> Result<(), &'static str> {
-    desks::a_texts_length(rt.alloc())
+fn nights_of_loads_and_reports(rt: HostRuntime) -> Result<(), Fail> {
+    Ok(desks::nights_of_topics(rt.alloc(), &nights::BY_TIME)?)
 }
 
 #[test]
-fn numbered_requests(rt: HostRuntime) -> Result<(), &'static str> {
-    desks::numbered_requests(rt.alloc())
+fn nights_of_commands_and_resources(rt: HostRuntime) -> Result<(), Fail> {
+    Ok(desks::nights_of_topics(rt.alloc(), &nights::BY_COMMANDS)?)
 }
 
 #[test]
-fn nights_at_once(rt: HostRuntime) -> Result<(), &'static str> {
-    desks::nights_at_once(rt.alloc())
+fn nights_in_which_something_comes_in(rt: HostRuntime) -> Result<(), Fail> {
+    Ok(desks::nights_of_topics(rt.alloc(), &nights::BY_WHAT_COMES_IN)?)
 }
 
 #[test]
-fn nights_opened_again_after_each_turn(rt: HostRuntime) -> Result<(), &'static str> {
-    desks::nights_opened_again_after_each_turn(rt.alloc())
+fn numbered_requests(rt: HostRuntime) -> Result<(), Fail> {
+    Ok(desks::nights_at_a_desk(rt.alloc(), desks::NUMBERS)?)
 }
 
 #[test]
-fn two_chains_at_a_desk(rt: HostRuntime) -> Result<(), &'static str> {
-    desks::two_chains_at_a_desk(rt.alloc())
-}
-
-#[test]
-fn name_of_a_table_is_taken(rt: HostRuntime) -> Result<(), &'static str> {
-    desks::name_of_a_table_is_taken(rt.alloc())
-}
-
-#[test]
-fn operation_in_error_is_handed_out(rt: HostRuntime) -> Result<(), &'static str> {
-    desks::operation_in_error_is_handed_out(rt.alloc())
-}
-
-#[test]
-fn waiting_predecessors_are_stored(rt: HostRuntime) -> Result<(), &'static str> {
-    desks::waiting_predecessors_are_stored(rt.alloc())
+fn stored_rows_and_tables_of_the_first_version(rt: HostRuntime) -> Result<(), Fail> {
+    Ok(desks::nights_at_a_desk(rt.alloc(), desks::VERSIONS)?)
 }
 
 #[test]
 fn rows_that_are_written(rt: HostRuntime) -> Result<(), &'static str> {
     desks::rows_that_are_written(rt.alloc())
-}
-
-#[test]
-fn tables_of_the_first_version_are_opened(rt: HostRuntime) -> Result<(), &'static str> {
-    desks::tables_of_the_first_version_are_opened(rt.alloc())
 }
 
 #[test]

@@ -1,44 +1,20 @@
 // Want of memory: calls without any, and calls that are made again and again while all memory is given back block by block.
 use nights::plans;
+use std::test::Fail;
 
 #[test]
-fn an_import_without_memory_answers_so(rt: HostRuntime) {
-    assert!(rt; plans::an_import_without_memory_answers_so(rt.alloc()));
+fn run_is_made_at_last(rt: HostRuntime) {
+    assert!(rt; plans::run_is_made_at_last(rt.alloc()));
 }
 
 #[test]
-fn a_draft_without_memory_is_refused(rt: HostRuntime) {
-    assert!(rt; plans::a_draft_without_memory_is_refused(rt.alloc()));
+fn all_is_made_at_last(rt: HostRuntime) -> Result<(), &'static str> {
+    plans::all_is_made_at_last(rt.alloc())
 }
 
 #[test]
-fn an_addition_without_memory_is_refused(rt: HostRuntime) {
-    assert!(rt; plans::an_addition_without_memory_is_refused(rt.alloc()));
-}
-
-#[test]
-fn an_extension_without_memory_is_refused(rt: HostRuntime) {
-    assert!(rt; plans::an_extension_without_memory_is_refused(rt.alloc()));
-}
-
-#[test]
-fn a_load_without_memory_changes_nothing(rt: HostRuntime) {
-    assert!(rt; plans::a_load_without_memory_changes_nothing(rt.alloc()));
-}
-
-#[test]
-fn a_run_without_memory_changes_nothing(rt: HostRuntime) {
-    assert!(rt; plans::a_run_without_memory_changes_nothing(rt.alloc()));
-}
-
-#[test]
-fn imports_are_refused_growth_by_growth(rt: HostRuntime) -> Result<(), &'static str> {
-    plans::imports_are_refused_growth_by_growth(rt.alloc())
-}
-
-#[test]
-fn nights_in_want_of_memory(rt: HostRuntime) -> Result<(), &'static str> {
-    plans::nights_in_want_of_memory(rt.alloc())
+fn nights_in_want_of_memory(rt: HostRuntime) -> Result<(), Fail> {
+    Ok(plans::nights_in_want_of_memory(rt.alloc())?)
 }
 
 #[test]

@@ -1,34 +1,21 @@
 // Desks over a store, of which contracts see nothing, and what is asked of them.
-use desk_tables::{Desk, Plan, run_all};
+use desk_tables::{Desk, Plan};
 use plan_basics::{Refusal, TrackerName};
 use plan_records::{Reply, Request};
-use sqlite::{Alter, Connection, MemStore};
+use sqlite::{Alter, Connection};
 use std::alloc::Global;
 use wires::Unseen;
 
 /// A desk over a store.
 #[derive(Drop)]
 pub struct Bench<S: Alter + Drop> {
-    pub desk: Unseen<Desk<S>>,
+    desk: Unseen<Desk<S>>,
 }
 
 impl<S: Alter + Drop> Bench<S> {
-    /// One that is made over a connection.
-    pub fn created(alloc: Global, conn: Connection<S>) -> Result<Self, Refusal> {
+    /// One that is made over a connection; or why there is none, and the connection.
+    pub fn created(alloc: Global, conn: Connection<S>) -> Result<Self, (Refusal, Connection<S>)> {
         match Desk::create(alloc, conn) {
-            Ok(held) => Ok(Bench {
-                desk: Unseen { held },
-            }),
-            Err((refusal, _)) => Err(refusal),
-        }
-    }
-
-    /// The one that is opened over a connection; or why there is none, and the connection.
-    pub fn opened_over(
-        alloc: Global,
-        conn: Connection<S>,
-    ) -> Result<Self, (Refusal, Connection<S>)> {
-        match Desk::open(alloc, conn) {
             Ok(held) => Ok(Bench {
                 desk: Unseen { held },
             }),
@@ -36,11 +23,13 @@ impl<S: Alter + Drop> Bench<S> {
         }
     }
 
-    /// The same without the connection.
-    pub fn opened(alloc: Global, conn: Connection<S>) -> Result<Self, Refusal> {
-        match Bench::opened_over(alloc, conn) {
-            Ok(bench) => Ok(bench),
-            Err((refusal, _)) => Err(refusal),
+    /// The one that is opened over a connection; or why there is none, and the connection.
+    pub fn opened(alloc: Global, conn: Connection<S>) -> Result<Self, (Refusal, Connection<S>)> {
+        match Desk::open(alloc, conn) {
+            Ok(held) => Ok(Bench {
+                desk: Unseen { held },
+            }),
+            Err(left) => Err(left),
         }
     }
 
@@ -59,11 +48,6 @@ impl<S: Alter + Drop> Bench<S> {
         self.desk.held.call(request)
     }
 
-    /// What it replies to requests, which are made at once.
-    pub fn call_all(&mut self, requests: &[Request]) -> Result<Vec<Reply>, Refusal> {
-        run_all(&mut self.desk.held, requests)
-    }
-
     /// What it replies to a tracker's request of this number and this text.
     pub fn call_numbered(
         &mut self,
@@ -73,15 +57,5 @@ impl<S: Alter + Drop> Bench<S> {
         request: &Request,
     ) -> Reply {
         self.desk.held.call_numbered(tracker, number, text, request)
-    }
-}
-
-impl Bench<MemStore> {
-    /// One in memory, at which nothing is loaded.
-    pub fn empty(alloc: Global) -> Result<Self, Refusal> {
-        match Connection::open_in_memory(alloc) {
-            Ok(conn) => Bench::created(alloc, conn),
-            Err(_) => Err(Refusal::Memory),
-        }
     }
 }

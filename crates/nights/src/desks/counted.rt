@@ -1,4 +1,4 @@
-// A store that passes each call on to another, and counts the entries that are written.
+// A store that passes each call on to another, and counts the rows that are written.
 ghost use Rattle.std.specs.Prelude.{◌≡◌};
 
 use sqlite_trees::error::StoreError;
@@ -7,31 +7,12 @@ use sqlite_trees::store::{Alter, Direction, Shape, Store};
 use sqlite_value::row::Row;
 use std::alloc::{AllocError, Global};
 
-/// How many entries were written to the trees of a store, as calls tell.
-#[derive(Clone, Copy, Debug, PartialEq, Eq)]
-pub struct Written {
-    /// Rows that were put into a table, new or in place of the one that had their rowid.
-    pub put: u32,
-    /// Rows that were taken out of a table.
-    pub deleted: u32,
-    /// Entries that were put into an index.
-    pub inserted: u32,
-    /// Entries that were taken out of an index.
-    pub removed: u32,
-}
-
-const NOTHING: Written = Written {
-    put: 0,
-    deleted: 0,
-    inserted: 0,
-    removed: 0,
-};
-
-/// A store, and what was written to it.
+/// A store, and how many rows were put into its tables, new or in place of others, and taken out.
 #[derive(Drop)]
 pub struct Counted<S> {
     inner: S,
-    written: Written,
+    put: u32,
+    deleted: u32,
 }
 
 impl<S> Counted<S> {
@@ -41,28 +22,15 @@ impl<S> Counted<S> {
     {
         Counted {
             inner,
-            written: NOTHING,
+            put: 0,
+            deleted: 0,
         }
     }
 
-    /// What was written to it.
-    pub fn written(&self) -> Written
-        ensures { result ≡ self.now.written }
-    {
-        self.written
+    /// How many rows were put in, and how many taken out.
+    pub fn written(&self) -> (u32, u32) {
+        (self.put, self.deleted)
     }
-
-    /// The store itself.
-    pub fn into_inner(self) -> S
-        ensures { result ≡ self.inner }
-    {
-        self.inner
-    }
-}
-
-// One more.
-fn count(number: &mut u32) {
-    *number = number.saturating_add(1);
 }
 
 impl<S: Store> Store for Counted<S> {
@@ -131,22 +99,20 @@ impl<S: Store> Store for Counted<S> {
     }
 
     fn put(&mut self, table: u32, row: &Row) -> Result<(), StoreError> {
-        count(&mut self.written.put);
+        self.put = self.put.saturating_add(1);
         self.inner.put(table, row)
     }
 
     fn delete(&mut self, table: u32, id: i64) -> Result<(), StoreError> {
-        count(&mut self.written.deleted);
+        self.deleted = self.deleted.saturating_add(1);
         self.inner.delete(table, id)
     }
 
     fn insert(&mut self, index: u32, entry: &Row) -> Result<(), StoreError> {
-        count(&mut self.written.inserted);
         self.inner.insert(index, entry)
     }
 
     fn remove(&mut self, index: u32, entry: &Row) -> Result<(), StoreError> {
-        count(&mut self.written.removed);
         self.inner.remove(index, entry)
     }
 
