@@ -42,13 +42,13 @@ fn beginning(name: &str) -> Result<&str, &str> {
 }
 
 // All operations and all occurrences, as a text says.
-fn keys_of(text: &str) -> &str {
+fn keys_of(text: &str) -> Option<&str> {
     for line in text.lines() {
         if let Some(keys) = line.strip_prefix("keys ") {
-            return keys;
+            return Some(keys);
         }
     }
-    ""
+    None
 }
 
 // The player after the lines of a beginning; or the line that goes otherwise.
@@ -99,13 +99,14 @@ fn after_line<P: Player>(alloc: Global, mut player: P, keys: &str, line: &str) -
 fn play_lines<'a, P: Player>(
     alloc: Global,
     mut player: P,
-    mut keys: &'a str,
+    mut keys: Option<&'a str>,
     night: &'a str,
 ) -> Result<(), &'a str> {
     for line in night.lines() {
-        match line.strip_prefix("keys ") {
-            Some(list) => keys = list,
-            None => player = after_line(alloc, player, keys, line).ok_or(line)?,
+        if line.starts_with("keys ") {
+            keys = line.strip_prefix("keys ");
+        } else {
+            player = after_line(alloc, player, keys.unwrap_or(""), line).ok_or(line)?;
         }
     }
     Ok(())
