@@ -5,10 +5,10 @@
     upgrade.py --pack [--released PATH]
 
 The database has a night in which bills have come in: written by the C library of SQLite from the SQL texts of
-crates/wires/src/first.rt, or with --released by a program of a release before 0.15. `report` has to leave its nine tables
-but for the version, and two empty ones beside them; the night has to go on; and a copy that was opened is killed at
---stops moments, after which the tables have to be those of before or those of after. What doesn't fit is refused 28 and
-stays. With --pack the database is printed as crates/tests/src/sessions/first_file.rt has it, and nothing is tried.
+crates/test_wires/src/first.rt, or with --released by a program of a release before 0.15. `report` has to leave its nine
+tables but for the version, and two empty ones beside them; the night has to go on; and a copy that was opened is killed
+at --stops moments, after which the tables have to be those of before or those of after. What doesn't fit is refused 28
+and stays. With --pack the database is printed as tests/sessions/files/first.db.packed has it, and nothing is tried.
 
 Exit status: 0 all is so, 1 it isn't, 2 nothing could be tried.
 """
@@ -29,7 +29,7 @@ from pathlib import Path
 from growths import PLAN, UNTIL_TEN_ENDS, on, operation, told
 from measure import HERE, PROGRAM, Unmeasured
 
-TEXTS = HERE.parent / "crates" / "wires" / "src" / "first.rt"
+TEXTS = HERE.parent / "crates" / "test_wires" / "src" / "first.rt"
 OPENING = ("report", "--db", "night.db", "--kind", "occurrences")
 OCCURRENCES = """OCCURRENCES AT 2024-03-01T22:45
 BILLING          2024-03-01T22:00 5 W 2024-03-02T03:00     1     0

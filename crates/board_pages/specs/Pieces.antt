@@ -1,6 +1,6 @@
 -- Pieces of a page, and their bytes.
 use Rattle.std.specs.Prelude.{ℕ, zero, suc, ℤ, ◌-◌, ◌==◌, ◌||◌, Bool, List, [], ◌∷◌, ◌++◌, length, take, drop, map, flat_map, cond, decimal}
-use Rattle.forecast_texts.specs.plan_shows.specs.Columns.{latest_text}
+use Rattle.report_lines.specs.Moments.{latest_text}
 use Rattle.board_pages.specs.declared.markup.TheConstants as markup
 use Rattle.board_pages.specs.declared.pieces.Piece.{Piece}
 use Rattle.board_pages.specs.declared.pieces.Piece.TheVariants as piece

@@ -4,8 +4,9 @@ ghost use Rattle.board_pages.specs.Pieces.{Part, bytes, bytes_of, date_text, day
 ghost use Rattle.forecast_texts.specs.plan_outlooks.specs.declared.rows.Outlooks.{Outlooks as Told};
 
 use super::markup;
-use forecast_texts::{Outlooks, latest_text};
+use forecast_texts::Outlooks;
 use plan_basics::{AppId, WsName};
+use report_lines::latest_text;
 use std::alloc::AllocError;
 
 /// A piece of a page.

@@ -1,6 +1,5 @@
 mod Appended
-mod JudgedBeside
-mod Judging
+pub mod FirstLines
 mod Minutes
 pub mod Opened
 pub mod Statuses

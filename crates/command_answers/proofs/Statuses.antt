@@ -1,12 +1,13 @@
 -- The exit statuses are small numbers, and an error of the system or of a store is a fault of the surroundings.
-use Rattle.std.proofs.Common.{ℕ, Result, Ok, Err, inl, inr, refl, arith, ◌≤◌}
+use Rattle.std.proofs.Common.{ℕ, Result, Ok, Err, IfErr, inl, inr, refl, arith, ◌≤◌, ◌⊎◌}
+use Rattle.std.proofs.lemmas.Result.{IfErr-weaker}
 use Rattle.std.specs.declared.io.ErrorKind.{ErrorKind}
 use Rattle.std.specs.declared.io.ErrorKind.TheVariants as kind
 use Rattle.sqlite.specs.declared.error.Error.{Error as StoreError}
 use Rattle.sqlite.specs.declared.error.Error.TheVariants.{SqliteFailure}
 use Rattle.sqlite.specs.declared.error.ErrorCode.TheVariants as code
-use Rattle.request_json.specs.plan_import.specs.declared.ImportFault.{ImportFault}
-use Rattle.request_json.specs.plan_import.specs.declared.ImportFault.TheVariants as import_fault
+use Rattle.plan_import.specs.declared.ImportFault.{ImportFault}
+use Rattle.plan_import.specs.declared.ImportFault.TheVariants as import_fault
 use Rattle.command_answers.specs.Statuses.{ending_status, fault_status, fault_of_import, fault_of_kind, fault_of_store, IsOfSurroundings, IsStatusOf}
 use Rattle.command_answers.specs.declared.endings.Ending.{Ending}
 use Rattle.command_answers.specs.declared.endings.Ending.TheVariants as ending
@@ -43,3 +44,11 @@ of_the_store _ = refl
 pub of_the_import : (f : ImportFault) → IsOfSurroundings (fault_of_import f)
 of_the_import import_fault.Reader = refl
 of_the_import import_fault.Memory = refl
+
+-- a fault of the surroundings is one of theirs, or another
+pub of_them : (Other : Fault → Type 0) (r : Result Ending Fault) → IfErr r IsOfSurroundings → IfErr r (λ f. IsOfSurroundings f ⊎ Other f)
+of_them Other r of = IfErr-weaker r IsOfSurroundings (λ f. IsOfSurroundings f ⊎ Other f) (λ (f : Fault) (is : IsOfSurroundings f). inl is) of
+
+-- so it is, written the other way round
+pub of_them_too : (Other : Fault → Type 0) (r : Result Ending Fault) → IfErr r IsOfSurroundings → IfErr r (λ f. Other f ⊎ IsOfSurroundings f)
+of_them_too Other r of = IfErr-weaker r IsOfSurroundings (λ f. Other f ⊎ IsOfSurroundings f) (λ (f : Fault) (is : IsOfSurroundings f). inr is) of

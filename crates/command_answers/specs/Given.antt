@@ -5,7 +5,7 @@ use Rattle.plan_basics.specs.Keys.{IsOperationKey}
 use Rattle.plan_basics.specs.Minutes.{IsMinuteText}
 use Rattle.plan_basics.specs.Names.{IsName}
 use Rattle.plan_basics.specs.declared.keys.OpKey.{OpKey}
-use Rattle.request_json.specs.plan_import.specs.Texts.{TextDenotes, TextDenotesExtension}
+use Rattle.plan_import.specs.Texts.{TextDenotes, TextDenotesExtension}
 use Rattle.plan_records.specs.plan_model.specs.Contents.{AddedParts, Contents}
 use Rattle.plan_records.specs.declared.Request.{Request}
 use Rattle.request_json.specs.Requests.{ReadsAsRequest}

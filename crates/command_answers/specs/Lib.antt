@@ -1,9 +1,7 @@
 pub use Rattle.request_json
-pub use Rattle.text_faults
 pub mod Answers
-pub mod Beside
 pub mod Given
-pub mod Judged
+pub mod Lines
 pub mod Opened
 pub mod Statuses
 pub mod Words

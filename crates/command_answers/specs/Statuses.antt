@@ -8,8 +8,8 @@ use Rattle.sqlite.specs.declared.error.Error.{Error as StoreError}
 use Rattle.sqlite.specs.declared.error.Error.TheVariants.{SqliteFailure}
 use Rattle.sqlite.specs.declared.error.ErrorCode.TheVariants as code
 use Rattle.plan_records.specs.Answer.{Answer, accepted, refused}
-use Rattle.request_json.specs.plan_import.specs.declared.ImportFault.{ImportFault}
-use Rattle.request_json.specs.plan_import.specs.declared.ImportFault.TheVariants as import_fault
+use Rattle.plan_import.specs.declared.ImportFault.{ImportFault}
+use Rattle.plan_import.specs.declared.ImportFault.TheVariants as import_fault
 use Rattle.command_answers.specs.declared.endings.Ending.{Ending}
 use Rattle.command_answers.specs.declared.endings.Ending.TheVariants as ending
 use Rattle.command_answers.specs.declared.endings.Fault.{Fault}

@@ -2,7 +2,7 @@
 ghost use Rattle.std.specs.Prelude.{◌≡◌};
 
 use plan_basics::Refusal;
-use request_json::ImportFault;
+use plan_import::ImportFault;
 use sqlite::ErrorCode;
 use std::alloc::AllocError;
 use std::{fmt, io};

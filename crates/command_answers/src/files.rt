@@ -5,8 +5,8 @@ ghost use Rattle.command_answers.specs.Statuses.{IsOfSurroundings};
 
 use crate::endings::Fault;
 use plan_basics::Watched;
+use plan_import::{read_extension, read_plan};
 use plan_records::{Extension, PlanDraft};
-use request_json::{read_extension, read_plan};
 use std::alloc::Global;
 use std::fs;
 use std::io::Read;

@@ -4,8 +4,8 @@ use Rattle.std.specs.Prelude.{⊤}
 use Rattle.sqlite.specs.Held.{state}
 use Rattle.sqlite.specs.Store.{Ghosts}
 use Rattle.sqlite.proofs.StateLemmas.{survives_then}
-use Rattle.desk_commands.specs.tracker_http.specs.plan_reports.specs.desk_tables.specs.Desk.{DeskState}
-use Rattle.desk_runs.specs.Connections.{Continues}
+use Rattle.command_desks.specs.desk_tables.specs.Desk.{DeskState}
+use Rattle.desk_serving.specs.tracker_http.specs.Continuing.{Continues}
 
 module _ {S : Type 0} (g : Ghosts S) where
   -- none was served

@@ -1,7 +1,7 @@
 -- How a run of `desk` ends that shows something.
 use Rattle.std.proofs.Common.{◌≡◌, refl, List, ℕ, Option, Result, Ok, Err, IfOk}
 use Rattle.plan_basics.specs.declared.Refusal.{Refusal}
-use Rattle.desk_commands.specs.tracker_http.specs.plan_reports.specs.desk_tables.specs.plan_records.specs.Answer.{refused}
+use Rattle.command_desks.specs.desk_tables.specs.plan_records.specs.Answer.{refused}
 use Rattle.command_answers.specs.Answers.{IsShown}
 use Rattle.command_answers.specs.declared.endings.Ending.{Ending}
 use Rattle.command_answers.specs.declared.endings.Ending.TheVariants as ending

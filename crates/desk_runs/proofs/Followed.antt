@@ -1,9 +1,9 @@
 -- Terms that follow a desk.
 use Rattle.std.proofs.Common.{◌≡◌, ◌∙◌, refl, ℕ, Option, Some, None, IsSome}
 use Rattle.std.specs.Option.{option_flatten}
-use Rattle.desk_commands.specs.tracker_http.specs.declared.terms.Terms.{Terms}
-use Rattle.desk_commands.specs.tracker_http.specs.board_pages.specs.forecast_texts.specs.plan_outlooks.specs.forecasting.specs.Known.{entry_of}
-use Rattle.desk_commands.specs.tracker_http.specs.plan_reports.specs.desk_tables.specs.plan_model.specs.Plan.{Plan}
+use Rattle.desk_serving.specs.declared.terms.Terms.{Terms}
+use Rattle.desk_serving.specs.forecasting.specs.Known.{entry_of}
+use Rattle.command_desks.specs.desk_tables.specs.plan_model.specs.Plan.{Plan}
 use Rattle.desk_runs.specs.Following.{AreFollowed, AreStillTermsOf, AreTermsOf}
 
 nothing : (entry : Option (Option ℕ)) → ¬ IsSome entry → option_flatten entry ≡ None

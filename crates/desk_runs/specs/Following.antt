@@ -1,9 +1,9 @@
 -- What a desk that is served knows of starts.
 use Rattle.std.specs.Prelude.{◌≡◌, ℕ, Option, Some, None}
-use Rattle.desk_commands.specs.tracker_http.specs.declared.terms.Terms.{Terms}
-use Rattle.desk_commands.specs.tracker_http.specs.board_pages.specs.forecast_texts.specs.plan_outlooks.specs.forecasting.specs.Known.{AreOfGoing, since_in}
-use Rattle.desk_commands.specs.tracker_http.specs.board_pages.specs.forecast_texts.specs.plan_outlooks.specs.plan_forecast.specs.Starts.{AreStartsAfter}
-use Rattle.desk_commands.specs.tracker_http.specs.plan_reports.specs.desk_tables.specs.plan_model.specs.Plan.{Plan}
+use Rattle.desk_serving.specs.declared.terms.Terms.{Terms}
+use Rattle.desk_serving.specs.forecasting.specs.Known.{AreOfGoing, since_in}
+use Rattle.desk_serving.specs.plan_forecast.specs.Starts.{AreStartsAfter}
+use Rattle.command_desks.specs.desk_tables.specs.plan_model.specs.Plan.{Plan}
 use Rattle.plan_basics.specs.declared.keys.OpKey.{OpKey}
 
 -- the terms have an entry of what is going in this plan, and of nothing else

@@ -1,3 +1,4 @@
 pub mod Connections
 pub mod Following
+pub mod Ticks
 pub mod Waits

@@ -2,11 +2,11 @@
 // exchange to the next.
 ghost use Rattle.std.specs.Prelude.{◌≡◌, IfErr, IfOk, OnErr, OnOk};
 ghost use Rattle.command_answers.specs.declared.endings.Fault.{Fault};
-ghost use Rattle.desk_commands.specs.tracker_http.specs.plan_reports.specs.desk_tables.specs.plan_model.specs.Plan.{Plan as PlanValue};
+ghost use Rattle.command_desks.specs.desk_tables.specs.plan_model.specs.Plan.{Plan as PlanValue};
 ghost use Rattle.desk_runs.specs.Following.{AreFirstTermsOf, AreFollowed, AreTermsOf};
 
 use command_answers::Fault;
-use desk_commands::{KnownStarts, Plan, Terms};
+use desk_serving::{KnownStarts, Plan, Terms};
 
 /// The terms of a desk that is opened with this plan, where a request's moment may be so many minutes after its clock: of what
 /// is going it isn't known since when. The fault is that of memory.

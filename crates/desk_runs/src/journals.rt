@@ -3,7 +3,7 @@ ghost use Rattle.std.specs.Prelude.{◌≡◌, IfErr};
 ghost use Rattle.command_answers.specs.declared.endings.Fault.{Fault};
 
 use command_answers::Fault;
-use desk_commands::Journal;
+use desk_serving::Journal;
 use plan_basics::Watched;
 use std::fs::{File, OpenOptions};
 use std::io;

@@ -1,17 +1,15 @@
-//! Runs of the program: from its words to its answer and its exit status. Here databases and journals are files, and
-//! `serve` and `desk` have their port.
+//! The commands by which a desk is served over HTTP, over databases and journals that are files: `serve`, so many connections,
+//! and `desk`, by what the system tells of them.
 #![tactic(auto)]
 
-mod desk;
 mod following;
 mod journals;
 mod polling;
 mod running;
 mod serving;
+mod ticks;
 mod timed;
 mod waiting;
 
-pub use command_answers::read_plan;
-pub use desk::{desk_run, tell_fault};
-pub use desk_commands::Desk;
-pub use serving::serve_listener;
+pub use running::run_desk;
+pub use serving::serve;

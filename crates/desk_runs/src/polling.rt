@@ -1,17 +1,19 @@
 // Connections served as they have something to read, one after another, until a fault ends it: one that sends nothing holds
 // nobody.
 ghost use Rattle.std.specs.Prelude.{◌≡◌, ◌⊎◌, true, Err, None, OnOk, IfErr};
-ghost use Rattle.desk_commands.specs.tracker_http.specs.desk_journal.specs.Lines.{entries_of};
-ghost use Rattle.desk_commands.specs.tracker_http.specs.Served.{Ends, Stands};
+ghost use Rattle.desk_serving.specs.tracker_http.specs.desk_journal.specs.Lines.{entries_of};
+ghost use Rattle.desk_serving.specs.Served.{Ends, Stands};
 ghost use Rattle.command_answers.specs.declared.endings.Fault.{Fault};
-ghost use Rattle.desk_runs.specs.Connections.{Continues, GoesOn};
+ghost use Rattle.desk_serving.specs.tracker_http.specs.Continuing.{Continues};
+ghost use Rattle.desk_runs.specs.Connections.{GoesOn};
 ghost use Rattle.desk_runs.specs.Following.{AreFollowed, AreStillTermsOf, AreTermsOf};
 
 use super::following::follow;
 use super::timed::{ReplyStream, TimedStream};
 use super::waiting::{LISTENER, MOST_WAITING, Waiting};
 use command_answers::Fault;
-use desk_commands::{Desk, Journal, ServeFault, Terms, serve_wanted};
+use command_desks::Desk;
+use desk_serving::{Journal, ServeFault, Terms, serve_wanted};
 use mio::event::Event;
 use mio::unix::SourceFd;
 use mio::{Events, Interest, Poll, Token};

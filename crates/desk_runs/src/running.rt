@@ -1,19 +1,19 @@
 // `desk`: the desk of a database's file over HTTP, until it is ended.
 ghost use Rattle.std.specs.Prelude.{◌≡◌, IfOk, IsErr, OnOk};
 ghost use Rattle.command_answers.specs.declared.endings.Ending.{Ending};
-ghost use Rattle.desk_runs.specs.Connections.{Continues};
+ghost use Rattle.desk_serving.specs.tracker_http.specs.Continuing.{Continues};
 ghost use Rattle.desk_runs.specs.Following.{AreFollowed, AreTermsOf};
 
 use super::following::{first_terms, follow};
 use super::journals::opened_journal;
 use super::polling::serve_polled;
 use super::serving::taken_port;
+use super::ticks::{is_behind, tick};
 use clap::ArgMatches;
 use command_answers::{Ending, Fault, moment_if_given, tell, tell_no_desk};
+use command_desks::{Database, Desk, close_desk, stored_desk};
 use command_words::value_of;
-use desk_commands::{
-    Database, Desk, Journal, Reply, Terms, close_desk, is_behind, stored_desk, tick,
-};
+use desk_serving::{Journal, Reply, Terms};
 use plan_basics::Watched;
 use sqlite::{Alter, Connection};
 use std::io::Write;

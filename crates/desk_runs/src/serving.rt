@@ -1,13 +1,14 @@
 // `serve`: the desk of a database's file over HTTP, so many connections, one after another.
 ghost use Rattle.std.specs.Prelude.{None};
-ghost use Rattle.desk_commands.specs.tracker_http.specs.Exchange.{Ends};
-ghost use Rattle.desk_runs.specs.Connections.{Continues};
+ghost use Rattle.desk_serving.specs.tracker_http.specs.Exchange.{Ends};
+ghost use Rattle.desk_serving.specs.tracker_http.specs.Continuing.{Continues};
 
 use super::timed::TimedStream;
 use clap::ArgMatches;
 use command_answers::{Ending, Fault, WireFault, tell_no_desk};
+use command_desks::{Database, Desk, close_desk, stored_desk};
 use command_words::value_of;
-use desk_commands::{Database, Desk, close_desk, serve_one, stored_desk};
+use desk_serving::serve_one;
 use plan_basics::Watched;
 use sqlite::{Alter, Connection};
 use std::io;

@@ -22,4 +22,5 @@ pub use desk::Desk;
 pub use errors::{ErrorRow, ErrorRows};
 pub use numbering::{NumberedOutcome, NumberedStep, prepare_numbered};
 pub use plan_core::{OccView, Occs, OpView, Ops, Plan, Ready, answer_alone};
+pub use plan_laws::{every_schedule, faults_leave_as_stops};
 pub use runs::run_all;

@@ -3,7 +3,7 @@ use Rattle.std.proofs.Common.{◌≡◌, refl, sym, ◌∙◌, ap, arith, ℕ, �
 use Rattle.std.specs.List.{concat}
 use Rattle.std.proofs.lemmas.List.{append_assoc, length-append}
 use Rattle.std.proofs.Math.Seq.{take-append_seam}
-use Rattle.plan_shows.specs.plan_reasons.specs.Texts.{line}
+use Rattle.plan_outlooks.specs.plan_reasons.specs.Texts.{line}
 
 -- a line is its pieces and LF
 pub pieces_line : (pieces : List (List ℕ)) → line pieces ≡ concat pieces ++ 10 ∷ []

@@ -9,10 +9,10 @@ use Rattle.plan_outlooks.specs.declared.rows.OccurrenceOutlook.{OccurrenceOutloo
 use Rattle.plan_outlooks.specs.declared.rows.OperationOutlook.{OperationOutlook}
 use Rattle.plan_outlooks.specs.declared.rows.PathMember.{PathMember}
 use Rattle.plan_outlooks.specs.declared.rows.Standstill.{Standstill}
-use Rattle.plan_shows.specs.Columns.{hyphens, latest_text}
-use Rattle.plan_shows.specs.Lines.{left, right}
-use Rattle.plan_shows.specs.plan_reasons.specs.Texts.{reason_pieces}
-use Rattle.plan_shows.specs.plan_reasons.specs.declared.reasons.Reason.{Reason}
+use Rattle.plan_outlooks.specs.plan_reasons.specs.Texts.{reason_pieces}
+use Rattle.plan_outlooks.specs.plan_reasons.specs.declared.reasons.Reason.{Reason}
+use Rattle.report_lines.specs.Lines.{left, right}
+use Rattle.report_lines.specs.Moments.{hyphens, latest_text}
 use Rattle.status_rules.specs.Texts.{occurrence_letter, status_letter}
 
 -- the text of a moment, or sixteen hyphens where there is none

@@ -1,4 +1,3 @@
 pub use Rattle.plan_outlooks
-pub use Rattle.plan_shows
 pub mod Columns
 pub mod Texts

@@ -5,7 +5,7 @@ use Rattle.plan_basics.specs.declared.keys.OpKey.{OpKey}
 use Rattle.plan_model.specs.Plan.{Plan}
 use Rattle.plan_outlooks.specs.Outlooks.{IsOutlook}
 use Rattle.plan_outlooks.specs.declared.rows.Outlooks.{Outlooks}
-use Rattle.plan_shows.specs.Lines.{report}
+use Rattle.report_lines.specs.Lines.{report}
 use Rattle.forecast_texts.specs.Columns.{occurrence_columns, operation_columns, path_columns, standstill_columns}
 
 -- what a first line ends with: the span of the forecast

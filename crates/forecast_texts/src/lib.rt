@@ -8,5 +8,4 @@ pub use plan_outlooks::{
     Cause, KnownStarts, OccurrenceOutlook, OpView, OperationOutlook, Ops, Outlooks, PathMember,
     Plan, Reason, Standstill, outlooks, put_reason,
 };
-pub use plan_shows::latest_text;
 pub use texts::{forecast_made, forecast_text};

@@ -2,14 +2,14 @@
 ghost use Rattle.std.specs.Prelude.{◌≡◌, ◌++◌, ◌∷◌, ℕ, List, [], codes, IfOk};
 ghost use Rattle.std.specs.List.{concat};
 ghost use Rattle.forecast_texts.specs.Columns.{begin_text, cause_word, late_text, minute_text, occurrence_columns, operation_columns, path_columns, reason_text, standstill_columns};
-ghost use Rattle.plan_shows.specs.Lines.{shown};
-ghost use Rattle.plan_shows.specs.plan_reasons.specs.Texts.{reason_pieces};
+ghost use Rattle.plan_outlooks.specs.plan_reasons.specs.Texts.{reason_pieces};
+ghost use Rattle.report_lines.specs.Lines.{shown};
 
 use plan_basics::{Moment, OccKey};
 use plan_outlooks::{
     Cause, OccurrenceOutlook, OperationOutlook, PathMember, Reason, Standstill, put_reason,
 };
-use plan_shows::{Field, Layout, latest_text, moment_text, put_line, right};
+use report_lines::{Field, Layout, NO_MOMENT, latest_text, moment_text, put_line, right};
 use std::alloc::{AllocError, Global};
 
 // The text of a moment, sixteen hyphens where there is none.
@@ -18,7 +18,7 @@ fn minute_text(moment: Option<Moment>) -> [u8; 16]
 {
     match moment {
         Some(moment) => moment_text(moment),
-        None => *b"----------------",
+        None => NO_MOMENT,
     }
 }
 
@@ -29,7 +29,7 @@ fn begin_text(is_known: bool, begin: Moment) -> [u8; 16]
     if is_known {
         moment_text(begin)
     } else {
-        *b"----------------"
+        NO_MOMENT
     }
 }
 

@@ -6,7 +6,7 @@ ghost use Rattle.plan_outlooks.specs.forecasting.specs.Known.{since_in};
 ghost use Rattle.plan_outlooks.specs.plan_forecast.specs.Ahead.{tick};
 ghost use Rattle.plan_outlooks.specs.plan_records.specs.Answer.{refused};
 ghost use Rattle.plan_outlooks.specs.plan_records.specs.Step.{Step};
-ghost use Rattle.plan_shows.specs.Lines.{report};
+ghost use Rattle.report_lines.specs.Lines.{report};
 
 use super::rows::{OccurrenceRows, OperationRows, PathRows, StandstillRows};
 use plan_basics::{Moment, Refusal};
@@ -14,7 +14,7 @@ use plan_outlooks::{
     KnownStarts, OccurrenceOutlook, OperationOutlook, Outlooks, PathMember, Plan, Standstill,
     outlooks,
 };
-use plan_shows::{Field, Layout, moment_text, report};
+use report_lines::{Field, Layout, moment_text, report};
 use std::alloc::{AllocError, Global};
 
 // A part of the text: these words with the span of the forecast, and these rows.

@@ -1,8 +1,11 @@
 //! The program plandesk: a current plan at the command line.
 #![tactic(auto)]
 
+mod desk;
+mod playing;
+
 use command_answers::Fault;
-use desk_runs::{desk_run, tell_fault};
+use desk::{desk_run, tell_fault};
 use plan_basics::Watched;
 use std::env;
 use std::process::ExitCode;

@@ -5,8 +5,9 @@ use Rattle.status_rules.specs.Texts.{occurrence_letter, status_letter}
 use Rattle.desk_tables.specs.plan_core.specs.declared.views.OccView.{OccView}
 use Rattle.desk_tables.specs.plan_core.specs.declared.views.OpView.{OpView}
 use Rattle.desk_tables.specs.declared.errors.ErrorRow.{ErrorRow}
-use Rattle.plan_shows.specs.Columns.{held_text, latest_text}
-use Rattle.plan_shows.specs.Lines.{left, right}
+use Rattle.plan_shows.specs.Columns.{held_text}
+use Rattle.report_lines.specs.Lines.{left, right}
+use Rattle.report_lines.specs.Moments.{latest_text}
 
 -- an operation that is ready
 abbrev pub ready_columns : OpView → List (List ℕ)

@@ -5,7 +5,7 @@ use Rattle.desk_tables.specs.plan_core.specs.declared.views.OccView.{OccView}
 use Rattle.desk_tables.specs.plan_core.specs.declared.views.OpView.{OpView}
 use Rattle.desk_tables.specs.declared.errors.ErrorRow.{ErrorRow}
 use Rattle.plan_reports.specs.Columns.{error_columns, late_columns, occurrence_columns, ready_columns}
-use Rattle.plan_shows.specs.Lines.{report}
+use Rattle.report_lines.specs.Lines.{report}
 use Rattle.plan_shows.specs.Shows.{at_moment}
 
 -- these are ready on this workstation

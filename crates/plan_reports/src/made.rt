@@ -9,7 +9,8 @@ use super::late::late_views;
 use super::rows::{ErrorRows, LateRows, OccurrenceRows, ReadyRows};
 use desk_tables::{Desk, ErrorRow, OccView, OpView, Plan};
 use plan_basics::{Moment, OpKey, Refusal, WsName};
-use plan_shows::{Field, Show, moment_text, report, shown, why, why_text};
+use plan_shows::{Show, shown, why, why_text};
+use report_lines::{Field, moment_text, report};
 use sqlite::Alter;
 use std::alloc::Global;
 

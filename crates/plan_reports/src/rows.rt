@@ -3,7 +3,8 @@ ghost use Rattle.plan_reports.specs.Columns.{error_columns, late_columns, occurr
 
 use desk_tables::{ErrorRow, OccView, OpView};
 use plan_basics::OccKey;
-use plan_shows::{Field, Layout, held_text, latest_text, moment_text, put_line, right};
+use plan_shows::held_text;
+use report_lines::{Field, Layout, latest_text, moment_text, put_line, right};
 use std::alloc::AllocError;
 
 /// Operations that are ready.

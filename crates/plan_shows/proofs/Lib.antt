@@ -3,7 +3,6 @@ pub mod Filters
 pub mod Health
 pub mod HoldersShown
 pub mod HoursShown
-pub mod Latest
 pub mod NotBefore
 pub mod OperationLists
 pub mod Unloaded

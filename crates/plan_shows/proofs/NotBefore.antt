@@ -1,7 +1,8 @@
 -- How a not-before is shown.
 use Rattle.std.proofs.Common.{◌≡◌, refl, ℕ, zero, suc, ◌<◌, arith}
 use Rattle.plan_basics.specs.MomentTexts.{moment_text}
-use Rattle.plan_shows.specs.Columns.{hyphens, not_before_text}
+use Rattle.report_lines.specs.Moments.{hyphens}
+use Rattle.plan_shows.specs.Columns.{not_before_text}
 
 pub first_minute : (m : ℕ) → m ≡ 0 → hyphens 16 ≡ not_before_text m
 first_minute zero first = refl

@@ -1,5 +1,5 @@
 -- The columns of each show: texts stand at the left of a column, numbers at the right, of these widths.
-use Rattle.std.specs.Prelude.{ℕ, zero, suc, ℤ, pos, negsuc, Bool, true, false, List, [], ◌∷◌, replicate, codes, cond, nat_lt, Option, Some, None}
+use Rattle.std.specs.Prelude.{ℕ, zero, suc, Bool, true, false, List, [], ◌∷◌, codes, Option, Some, None}
 use Rattle.plan_basics.specs.Attributes.{attribute_letter}
 use Rattle.plan_basics.specs.MomentTexts.{moment_text}
 use Rattle.plan_basics.specs.declared.keys.OpKey.{OpKey}
@@ -12,22 +12,14 @@ use Rattle.plan_reasons.specs.plan_core.specs.plan_records.specs.declared.What.T
 use Rattle.status_rules.specs.Texts.{status_letter}
 use Rattle.status_rules.specs.declared.Mark.{Mark}
 use Rattle.status_rules.specs.declared.Mark.TheVariants as mark
-use Rattle.plan_shows.specs.Lines.{left, right}
+use Rattle.report_lines.specs.Lines.{left, right}
+use Rattle.report_lines.specs.Moments.{hyphens, latest_text}
 use Rattle.plan_shows.specs.declared.resources.HolderView.{HolderView}
 use Rattle.plan_shows.specs.declared.resources.ResourceRow.{ResourceRow}
 use Rattle.plan_shows.specs.declared.resources.ResourceRow.TheVariants as row
 use Rattle.plan_shows.specs.declared.resources.ResourceAmounts.{ResourceAmounts}
 use Rattle.plan_shows.specs.declared.stations.WorkstationView.{WorkstationView}
 use Rattle.plan_shows.specs.declared.trackers.TrackerView.{TrackerView}
-
--- so many hyphens, where there is nothing to tell
-abbrev pub hyphens : ℕ → List ℕ
-hyphens width = replicate width 45
-
--- a latest start, or another minute: the text of its moment, or sixteen hyphens where it is none
-abbrev pub latest_text : ℤ → List ℕ
-latest_text (pos m) = cond (nat_lt m 52596000) (moment_text m) (replicate 16 45)
-latest_text (negsuc m) = replicate 16 45
 
 -- a not-before: none where it is minute 0, to which nothing comes too early
 abbrev pub not_before_text : ℕ → List ℕ

@@ -1,6 +1,6 @@
 pub use Rattle.plan_reasons
 pub use Rattle.plan_reasons.specs.plan_core
-pub mod Lines
+pub use Rattle.report_lines
 pub mod Views
 pub mod Resources
 pub mod Stations

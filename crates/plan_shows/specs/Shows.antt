@@ -9,7 +9,7 @@ use Rattle.plan_model.specs.Plan.{Plan}
 use Rattle.plan_reasons.specs.plan_core.specs.declared.views.OpView.{OpView}
 use Rattle.plan_reasons.specs.plan_core.specs.plan_records.specs.Step.{Receipts}
 use Rattle.plan_shows.specs.Columns.{operation_columns, row_columns, started_columns, tracker_columns, workstation_columns}
-use Rattle.plan_shows.specs.Lines.{report}
+use Rattle.report_lines.specs.Lines.{report}
 use Rattle.plan_shows.specs.Resources.{AreResourceViews, rows_of}
 use Rattle.plan_shows.specs.Stations.{AreWorkstationViews}
 use Rattle.plan_shows.specs.Trackers.{AreTrackerViews}

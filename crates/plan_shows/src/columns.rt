@@ -1,30 +1,13 @@
 // The texts of columns.
 ghost use Rattle.std.specs.Prelude.{◌≡◌};
-ghost use Rattle.plan_basics.specs.MomentTexts.{moment_text};
 ghost use Rattle.plan_reasons.specs.Texts.{mode_word};
-ghost use Rattle.plan_shows.specs.Columns.{available_text, held_text, latest_text, mark_word, nop_text, not_before_text, verb_text};
+ghost use Rattle.plan_shows.specs.Columns.{available_text, held_text, mark_word, nop_text, not_before_text, verb_text};
 
-use plan_basics::{Moment, minute_text};
+use plan_basics::Moment;
+use report_lines::{NO_MOMENT, moment_text};
 use request_json::What;
 use special_resources::Mode;
 use status_rules::Mark;
-
-/// Sixteen hyphens, where there is no moment.
-pub(crate) const NO_MOMENT: [u8; 16] = *b"----------------";
-
-/// The text of a moment.
-pub fn moment_text(moment: Moment) -> [u8; 16]
-    ensures { result ≡ moment_text moment }
-{
-    moment.to_text()
-}
-
-/// The text of a latest start, sixteen hyphens where no plan can name it.
-pub fn latest_text(minute: i64) -> [u8; 16]
-    ensures { result ≡ latest_text minute }
-{
-    minute_text(minute)
-}
 
 /// The text of a not-before, sixteen hyphens where it is minute 0.
 pub(crate) fn not_before_text(moment: Moment) -> [u8; 16]

@@ -1,19 +1,17 @@
 // The rows of the shows, column by column.
 ghost use Rattle.std.specs.Prelude.{◌≡◌, ◌++◌, ◌∷◌, Some, OnOk};
 ghost use Rattle.plan_shows.specs.Columns.{holder_columns, hours_word, no_report, operation_columns, report_columns, resource_columns, row_columns, started_columns, tracker_columns, workstation_columns};
-ghost use Rattle.plan_shows.specs.Lines.{left, line, right};
+ghost use Rattle.report_lines.specs.Lines.{left, line, right};
 
 use super::columns::{
-    NO_MOMENT, available_text, held_text, latest_text, mark_word, mode_word, moment_text, nop_text,
-    not_before_text, verb_text,
+    available_text, held_text, mark_word, mode_word, nop_text, not_before_text, verb_text,
 };
-use super::lines::{Field, put_line, right};
 use super::resources::{HolderView, ResourceAmounts, ResourceRow};
 use super::stations::WorkstationView;
-use super::texts::Layout;
 use super::trackers::TrackerView;
 use plan_basics::{OccKey, OpKey};
 use plan_reasons::OpView;
+use report_lines::{Field, Layout, NO_MOMENT, latest_text, moment_text, put_line, right};
 use request_json::Request;
 use std::alloc::AllocError;
 

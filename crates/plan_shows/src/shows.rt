@@ -1,20 +1,18 @@
 // The text of each show of a plan, or why there is none.
 ghost use Rattle.std.specs.Prelude.{◌≡◌, ◌∷◌, IfErr, IfOk, None, map};
 ghost use Rattle.plan_basics.specs.declared.Refusal.{Refusal};
-ghost use Rattle.plan_shows.specs.Lines.{report};
+ghost use Rattle.report_lines.specs.Lines.{report};
 ghost use Rattle.plan_shows.specs.Shows.{IsOwed, IsShow, at_moment, show_refusal_of};
 ghost use Rattle.plan_shows.specs.declared.shows.Show.{Show as ShowValue};
 
-use super::columns::moment_text;
-use super::lines::Field;
 use super::resources::{ResourceRow, resource_rows, resource_views};
 use super::rows::{OperationRows, ResourceRows, StartedRows, TrackerRows, WorkstationRows};
 use super::stations::{WorkstationView, workstation_views};
-use super::texts::{Layout, report};
 use super::trackers::{TrackerView, tracker_views};
 use super::views::{operation_views, started_views};
 use plan_basics::{OccKey, Refusal};
 use plan_reasons::{OpView, Plan};
+use report_lines::{Field, Layout, moment_text, report};
 use std::alloc::{AllocError, Global};
 use tracker_receipts::Receipts;
 

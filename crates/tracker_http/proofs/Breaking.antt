@@ -6,13 +6,13 @@ use Rattle.std.proofs.Math.Seq.{take-length}
 use Rattle.sqlite.specs.Store.{Ghosts}
 use Rattle.http_messages.specs.declared.asking.Asked.{Asked}
 use Rattle.plan_basics.specs.Watched.{AppendsBeginning}
-use Rattle.plan_reports.specs.desk_tables.specs.Desk.{DeskState}
+use Rattle.desk_tables.specs.Desk.{DeskState}
 use Rattle.tracker_http.specs.Journalled.{answer_lines, request_lines, Takes}
-use Rattle.tracker_http.specs.declared.told.Told.{Told}
+use Rattle.desk_replies.specs.declared.told.Told.{Told}
 use Rattle.desk_journal.specs.Journals.{Journals}
 use Rattle.desk_journal.specs.declared.journal.JournalFault.{JournalFault}
 use Rattle.desk_journal.specs.declared.journal.JournalFault.TheVariants as fault
-use Rattle.tracker_http.specs.Served.{AskedBreaksOff}
+use Rattle.tracker_http.specs.Journalled.{AskedBreaksOff}
 
 -- bytes that stay have nothing added, a beginning of anything
 none_added : (old new : Option (List ℕ)) (bytes : List ℕ) → Keeps old new → AppendsBeginning old new bytes

@@ -1,7 +1,4 @@
 pub mod Ended
-pub mod Carried
-pub mod Unguarded
-pub mod Owed
-pub mod Breaking
-pub mod Ending
-pub mod Clock
+mod Continuing
+mod Unguarded
+mod Breaking

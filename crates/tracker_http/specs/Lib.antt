@@ -1,11 +1,9 @@
-pub use Rattle.board_pages
 pub use Rattle.desk_journal
+pub use Rattle.desk_replies
+pub use Rattle.desk_tables
 pub use Rattle.http_messages
-pub use Rattle.plan_reports
-pub mod Told
 pub mod Lists
 pub mod Exchange
+pub mod Continuing
 pub mod Guard
 pub mod Journalled
-pub mod Shown
-pub mod Served

@@ -4,17 +4,17 @@ use Rattle.std.specs.FinMap.{contains_key}
 use Rattle.plan_basics.specs.Names.{IsName}
 use Rattle.plan_basics.specs.declared.Refusal.{Refusal}
 use Rattle.plan_basics.specs.declared.Refusal.TheVariants as refusal
-use Rattle.plan_reports.specs.desk_tables.specs.plan_core.specs.Views.{AreReadyViews, AreOccViews}
-use Rattle.plan_reports.specs.desk_tables.specs.plan_core.specs.declared.views.OccView.{OccView}
-use Rattle.plan_reports.specs.desk_tables.specs.plan_core.specs.declared.views.OpView.{OpView}
-use Rattle.plan_reports.specs.desk_tables.specs.plan_model.specs.Contents.{Contents}
-use Rattle.plan_reports.specs.desk_tables.specs.plan_model.specs.Plan.{Plan}
+use Rattle.desk_tables.specs.plan_core.specs.Views.{AreReadyViews, AreOccViews}
+use Rattle.desk_tables.specs.plan_core.specs.declared.views.OccView.{OccView}
+use Rattle.desk_tables.specs.plan_core.specs.declared.views.OpView.{OpView}
+use Rattle.desk_tables.specs.plan_model.specs.Contents.{Contents}
+use Rattle.desk_tables.specs.plan_model.specs.Plan.{Plan}
 use Rattle.plan_records.specs.Run.{Usable, usable, to_be_reopened}
 use Rattle.plan_records.specs.declared.Reply.TheVariants as reply
-use Rattle.request_json.specs.declared.rows.OccurrenceRow.{OccurrenceRow}
-use Rattle.request_json.specs.declared.rows.ReadyRow.{ReadyRow}
-use Rattle.tracker_http.specs.declared.told.Told.{Told}
-use Rattle.tracker_http.specs.declared.told.Told.TheVariants as told
+use Rattle.desk_replies.specs.request_json.specs.declared.rows.OccurrenceRow.{OccurrenceRow}
+use Rattle.desk_replies.specs.request_json.specs.declared.rows.ReadyRow.{ReadyRow}
+use Rattle.desk_replies.specs.declared.told.Told.{Told}
+use Rattle.desk_replies.specs.declared.told.Told.TheVariants as told
 
 -- what a ready list shows of an operation
 abbrev pub ready_row : OpView → ReadyRow

@@ -1,17 +1,14 @@
 // What the desk is asked, and what it tells.
-ghost use Rattle.std.specs.Prelude.{◌≡◌, ◌↔◌, IfOk, IfErr, IsTrue, OnErr, ⊤};
-ghost use Rattle.sqlite.specs.Held.{state};
-ghost use Rattle.sqlite.specs.State.{Survives};
-ghost use Rattle.plan_reports.specs.desk_tables.specs.Desk.{state_of, HoldsState, IsClean};
-ghost use Rattle.tracker_http.specs.Exchange.{seen, StaysOpen, Tells};
+ghost use Rattle.std.specs.Prelude.{◌≡◌, ◌↔◌, IfOk, IfErr, IsTrue, OnErr};
+ghost use Rattle.tracker_http.specs.Continuing.{ContinuesTelling};
+ghost use Rattle.tracker_http.specs.Exchange.{seen, Tells};
 ghost use Rattle.tracker_http.specs.Guard.{IsTooFar, TellsOperatorWithin, TellsReportWithin, TellsWithin};
 
 use super::lists::{tell_occurrences, tell_ready};
-use super::told::Told;
+use desk_replies::{Told, WireFault, read_operator, read_report};
+use desk_tables::{Desk, Plan};
 use http_messages::{Asked, Status};
 use plan_records::Request;
-use plan_reports::{Desk, Plan};
-use request_json::{WireFault, read_operator, read_report};
 use sqlite::Alter;
 use std::alloc::Global;
 
@@ -36,10 +33,7 @@ fn tell_report<S: Alter + Drop>(
 ) -> Result<Told, WireFault>
     ensures told { IfOk result (λ told. TellsReportWithin ahead body.now (seen desk.old) told (seen desk.new)) }
     ensures memory { IfErr result (λ fault. fault ≡ WireFault.Memory) }
-    ensures stays_open { IfOk result (StaysOpen (state S.Store desk.old.conn) (state S.Store desk.new.conn)) }
-    ensures tables { HoldsState (state_of desk.old) (state S.Store desk.old.conn).committed → IsClean (state S.Store desk.new.conn) → HoldsState (state_of desk.new) (state S.Store desk.new.conn).committed }
-    ensures clean { IsClean (state S.Store desk.new.conn) → IsClean (state S.Store desk.old.conn) }
-    ensures survives { Survives (state S.Store desk.old.conn) (state S.Store desk.new.conn) (λ _. ⊤) }
+    ensures continues { ContinuesTelling S.Store result desk.old desk.new }
     ensures unchanged { OnErr result (desk.new ≡ desk.old) }
 {
     let Some(report) = read_report(alloc, body)? else {
@@ -61,10 +55,7 @@ fn tell_operator<S: Alter + Drop>(
 ) -> Result<Told, WireFault>
     ensures told { IfOk result (λ told. TellsOperatorWithin ahead body.now (seen desk.old) told (seen desk.new)) }
     ensures memory { IfErr result (λ fault. fault ≡ WireFault.Memory) }
-    ensures stays_open { IfOk result (StaysOpen (state S.Store desk.old.conn) (state S.Store desk.new.conn)) }
-    ensures tables { HoldsState (state_of desk.old) (state S.Store desk.old.conn).committed → IsClean (state S.Store desk.new.conn) → HoldsState (state_of desk.new) (state S.Store desk.new.conn).committed }
-    ensures clean { IsClean (state S.Store desk.new.conn) → IsClean (state S.Store desk.old.conn) }
-    ensures survives { Survives (state S.Store desk.old.conn) (state S.Store desk.new.conn) (λ _. ⊤) }
+    ensures continues { ContinuesTelling S.Store result desk.old desk.new }
     ensures unchanged { OnErr result (desk.new ≡ desk.old) }
 {
     let Some(request) = read_operator(alloc, body)? else {
@@ -87,10 +78,7 @@ pub fn tell_within<S: Alter + Drop>(
 ) -> Result<Told, WireFault>
     ensures told { IfOk result (λ told. TellsWithin ahead asked.now (seen desk.old) told (seen desk.new)) }
     ensures memory { IfErr result (λ fault. fault ≡ WireFault.Memory) }
-    ensures stays_open { IfOk result (StaysOpen (state S.Store desk.old.conn) (state S.Store desk.new.conn)) }
-    ensures tables { HoldsState (state_of desk.old) (state S.Store desk.old.conn).committed → IsClean (state S.Store desk.new.conn) → HoldsState (state_of desk.new) (state S.Store desk.new.conn).committed }
-    ensures clean { IsClean (state S.Store desk.new.conn) → IsClean (state S.Store desk.old.conn) }
-    ensures survives { Survives (state S.Store desk.old.conn) (state S.Store desk.new.conn) (λ _. ⊤) }
+    ensures continues { ContinuesTelling S.Store result desk.old desk.new }
     ensures unchanged { OnErr result (desk.new ≡ desk.old) }
 {
     match asked {
@@ -109,10 +97,7 @@ pub(crate) fn tell<S: Alter + Drop>(
 ) -> Result<Told, WireFault>
     ensures told { IfOk result (λ told. Tells asked.now (seen desk.old) told (seen desk.new)) }
     ensures memory { IfErr result (λ fault. fault ≡ WireFault.Memory) }
-    ensures stays_open { IfOk result (StaysOpen (state S.Store desk.old.conn) (state S.Store desk.new.conn)) }
-    ensures tables { HoldsState (state_of desk.old) (state S.Store desk.old.conn).committed → IsClean (state S.Store desk.new.conn) → HoldsState (state_of desk.new) (state S.Store desk.new.conn).committed }
-    ensures clean { IsClean (state S.Store desk.new.conn) → IsClean (state S.Store desk.old.conn) }
-    ensures survives { Survives (state S.Store desk.old.conn) (state S.Store desk.new.conn) (λ _. ⊤) }
+    ensures continues { ContinuesTelling S.Store result desk.old desk.new }
     ensures unchanged { OnErr result (desk.new ≡ desk.old) }
 {
     tell_within(alloc, desk, asked, None)

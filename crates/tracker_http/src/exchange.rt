@@ -1,18 +1,15 @@
 // One exchange: a request is read, the desk answers it, the reply is written.
-ghost use Rattle.std.specs.Prelude.{◌≡◌, ◌↔◌, ◌⊎◌, Err, true, false, IfOk, IfErr, OnOk, OnErr, ⊤};
-ghost use Rattle.sqlite.specs.Held.{state};
-ghost use Rattle.sqlite.specs.State.{Survives};
-ghost use Rattle.plan_reports.specs.desk_tables.specs.Desk.{state_of, HoldsState, IsClean};
+ghost use Rattle.std.specs.Prelude.{◌≡◌, ◌↔◌, ◌⊎◌, Err, true, false, IfOk, IfErr, OnOk, OnErr};
 ghost use Rattle.std.specs.Io.KnownBytes.{Appends};
 ghost use Rattle.plan_basics.specs.Watched.{inner_of, failed_of, AppendsBeginning};
-ghost use Rattle.tracker_http.specs.Exchange.{seen, IsTold, Ends, StaysOpen};
+ghost use Rattle.tracker_http.specs.Continuing.{Continues, ContinuesTelling};
+ghost use Rattle.tracker_http.specs.Exchange.{seen, IsTold, Ends};
 
 use super::asking::tell;
-use super::told::Told;
+use desk_replies::{Told, WireFault};
+use desk_tables::Desk;
 use http_messages::{ExchangeFault, read_exchange};
 use plan_basics::Watched;
-use plan_reports::Desk;
-use request_json::WireFault;
 use sqlite::Alter;
 use std::alloc::Global;
 use std::io::{Read, Write};
@@ -26,10 +23,7 @@ fn told_to<R: Read, S: Alter + Drop>(
     ensures told { IfOk result (λ told. IsTold (R.remaining (inner_of reader.old)) (seen desk.old) told (seen desk.new)) }
     ensures reader_fault { (result ≡ Err WireFault.Reader) ↔ (failed_of reader.new ≡ true) }
     ensures others { IfErr result (λ fault. (fault ≡ WireFault.Reader) ⊎ (fault ≡ WireFault.Memory)) }
-    ensures stays_open { IfOk result (StaysOpen (state S.Store desk.old.conn) (state S.Store desk.new.conn)) }
-    ensures tables { HoldsState (state_of desk.old) (state S.Store desk.old.conn).committed → IsClean (state S.Store desk.new.conn) → HoldsState (state_of desk.new) (state S.Store desk.new.conn).committed }
-    ensures clean { IsClean (state S.Store desk.new.conn) → IsClean (state S.Store desk.old.conn) }
-    ensures survives { Survives (state S.Store desk.old.conn) (state S.Store desk.new.conn) (λ _. ⊤) }
+    ensures continues { ContinuesTelling S.Store result desk.old desk.new }
     ensures unchanged { OnErr result (desk.new ≡ desk.old) }
 {
     match read_exchange(alloc, reader) {
@@ -65,7 +59,7 @@ pub fn send<W: Write>(writer: &mut Watched<W>, reply: &[u8]) -> Result<(), WireF
 ///
 /// Of each reader, a socket too, the reply and the desk after it are those of some request, or of some test that it fails;
 /// where the bytes are known, of what they say (`ends`). Where the tables held what the desk holds and the store is clean
-/// afterwards, they hold what the desk holds then (`tables`); and where the disk returns what was written, a store that was
+/// afterwards, they hold what the desk holds then (`continues`); and where the disk returns what was written, a store that was
 /// open is, unless the desk answered `Memory` or `Store` (`ends`).
 pub fn serve_one<R: Read, W: Write, S: Alter + Drop>(
     alloc: Global,
@@ -74,9 +68,7 @@ pub fn serve_one<R: Read, W: Write, S: Alter + Drop>(
     desk: &mut Desk<S>,
 ) -> Result<(), WireFault>
     ensures ends { Ends S.Store result (R.remaining (inner_of reader.old)) desk.old desk.new (W.contents (inner_of writer.old)) (W.contents (inner_of writer.new)) }
-    ensures tables { HoldsState (state_of desk.old) (state S.Store desk.old.conn).committed → IsClean (state S.Store desk.new.conn) → HoldsState (state_of desk.new) (state S.Store desk.new.conn).committed }
-    ensures clean { IsClean (state S.Store desk.new.conn) → IsClean (state S.Store desk.old.conn) }
-    ensures survives { Survives (state S.Store desk.old.conn) (state S.Store desk.new.conn) (λ _. ⊤) }
+    ensures continues { Continues S.Store desk.old desk.new }
     ensures reader_fault { (result ≡ Err WireFault.Reader) ↔ (failed_of reader.new ≡ true) }
     ensures writer_fault { (result ≡ Err WireFault.Writer) ↔ (failed_of writer.new ≡ true) }
 {

@@ -1,19 +1,17 @@
 // A desk that is asked between two lines of a journal.
-ghost use Rattle.std.specs.Prelude.{◌≡◌, ◌≢◌, Err, IfOk, OnOk, ⊤};
+ghost use Rattle.std.specs.Prelude.{◌≡◌, ◌≢◌, Err, IfOk, OnOk};
 ghost use Rattle.std.specs.Io.KnownBytes.{Appends, Keeps};
-ghost use Rattle.sqlite.specs.Held.{state};
-ghost use Rattle.sqlite.specs.State.{Survives};
 ghost use Rattle.plan_basics.specs.Watched.{AppendsBeginning};
 ghost use Rattle.desk_journal.specs.Lines.{entries_of, line_of, request_data};
 ghost use Rattle.desk_journal.specs.Journals.{Journals, Stands};
-ghost use Rattle.plan_reports.specs.desk_tables.specs.Desk.{state_of, HoldsState, IsClean};
+ghost use Rattle.tracker_http.specs.Continuing.{Continues};
 ghost use Rattle.tracker_http.specs.Journalled.{answer_lines, clock_of, request_lines, told_line, Takes};
 
 use super::asking::tell_within;
-use super::told::Told;
 use desk_journal::{Journal, JournalFault, answer_line, request_line};
+use desk_replies::Told;
+use desk_tables::{Desk, Plan};
 use http_messages::Asked;
-use plan_reports::{Desk, Plan};
 use sqlite::Alter;
 use std::alloc::{AllocError, Global};
 use std::io::Write;
@@ -116,9 +114,7 @@ pub fn journalled<J: Write, S: Alter + Drop>(
 ) -> Result<Told, JournalFault>
     ensures journals { Journals (Takes S.Store ahead asked.now) (request_lines desk.old.plan asked.now) (answer_lines asked.now) result desk.old desk.new (entries_of J.contents journal.old) (entries_of J.contents journal.new) }
     ensures stands { Stands (request_lines desk.old.plan asked.now) desk.old desk.new (entries_of J.contents journal.old) (entries_of J.contents journal.new) }
-    ensures tables { HoldsState (state_of desk.old) (state S.Store desk.old.conn).committed → IsClean (state S.Store desk.new.conn) → HoldsState (state_of desk.new) (state S.Store desk.new.conn).committed }
-    ensures clean { IsClean (state S.Store desk.new.conn) → IsClean (state S.Store desk.old.conn) }
-    ensures survives { Survives (state S.Store desk.old.conn) (state S.Store desk.new.conn) (λ _. ⊤) }
+    ensures continues { Continues S.Store desk.old desk.new }
 {
     enter_request(alloc, journal, desk.plan(), asked)?;
     let Ok(told) = tell_within(alloc, desk, asked, ahead) else {

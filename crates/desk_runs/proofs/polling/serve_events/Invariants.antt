@@ -1,5 +1,5 @@
 use Rattle.std.proofs.Common.{◌≡◌, true}
-use Rattle.desk_runs.specs.Connections.{Continues}
+use Rattle.desk_serving.specs.tracker_http.specs.Continuing.{Continues}
 use Rattle.desk_runs.specs.Following.{AreStillTermsOf}
 use Rattle.desk_runs.proofs.polling.serve_events.Given as goal
 

@@ -1,4 +1,4 @@
-use Rattle.desk_runs.specs.Connections.{Continues}
+use Rattle.desk_serving.specs.tracker_http.specs.Continuing.{Continues}
 use Rattle.desk_runs.proofs.serving.serve_listener.Given as goal
 
 abbrev pub invariant-loop : goal.invariant-loop

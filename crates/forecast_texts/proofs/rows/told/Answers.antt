@@ -1,5 +1,5 @@
 use Rattle.std.proofs.Common.{◌∙◌, ap, ◌++◌}
-use Rattle.plan_shows.specs.plan_reasons.specs.Texts.{reason_line, reason_pieces}
+use Rattle.plan_outlooks.specs.plan_reasons.specs.Texts.{reason_line, reason_pieces}
 use Rattle.forecast_texts.proofs.Pieces.{pieces_line}
 use Rattle.forecast_texts.proofs.rows.told.Goals as goal
 

@@ -1,19 +1,14 @@
 use Rattle.std.proofs.Common.{◌≡◌, inl, inr, false, true}
-use Rattle.sqlite.specs.Held.{state}
 use Rattle.plan_records.specs.Answer.{answer_of}
-use Rattle.plan_reports.specs.desk_tables.specs.Desk.{state_of}
 use Rattle.tracker_http.specs.Guard.{IsTooFar}
-use Rattle.tracker_http.proofs.Carried.{any_crash, tables_carried}
+use Rattle.tracker_http.proofs.Continuing.{called}
 use Rattle.tracker_http.proofs.asking.tell_report.Goals as goal
 
-pub returns-clause-tables : goal.returns-clause-tables
-returns-clause-tables g c =
-    let old = c.args.desk.now in
-    let new = c.call_numbered-reply.new.self in
-    tables_carried (state g.S.Store old.conn) (state g.S.Store new.conn) (state_of old) (state_of new) (answer_of c.call_numbered-reply.result) c.call_numbered-reply.ensures.clean c.call_numbered-reply.ensures.tables
-
-pub returns-clause-survives : goal.returns-clause-survives
-returns-clause-survives g c = any_crash (state g.S.Store c.args.desk.now.conn) (state g.S.Store c.call_numbered-reply.new.self.conn) _ c.call_numbered-reply.ensures.survives
+pub returns-clause-continues : goal.returns-clause-continues
+returns-clause-continues g c = record {
+  continues = called g.S.Store c.args.desk.now c.call_numbered-reply.new.self (answer_of c.call_numbered-reply.result) c.call_numbered-reply.ensures.clean c.call_numbered-reply.ensures.tables _ c.call_numbered-reply.ensures.survives;
+  stays_open = c.call_numbered-reply.ensures.is_open;
+}
 
 pub returns-clause-told : goal.returns-clause-told
 returns-clause-told g c =

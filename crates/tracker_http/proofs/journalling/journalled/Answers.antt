@@ -8,7 +8,7 @@ pub returns-clause-journals : goal.returns-clause-journals
 returns-clause-journals g c =
     answered (Takes g.S.Store c.args.ahead c.args.asked.now) (request_lines c.args.desk.now.plan c.args.asked.now) (answer_lines c.args.asked.now) c.args.desk.now c.tell_within.new.desk
     (entries_of g.J.Write.contents c.args.journal.now) (entries_of g.J.Write.contents c.enter_answer.new.journal) (entries_of g.J.Write.contents c.enter_request.new.journal)
-    (rw c.plan.ensures.plan at c.in_ok-enter_request.ensures.whole) c.in-Ok.told (c.in-Ok.ensures.told, c.in-Ok.ensures.stays_open) c.in_ok-enter_answer.ensures.whole
+    (rw c.plan.ensures.plan at c.in_ok-enter_request.ensures.whole) c.in-Ok.told (c.in-Ok.ensures.told, c.in-Ok.ensures.continues.stays_open) c.in_ok-enter_answer.ensures.whole
 
 pub returns-clause-stands : goal.returns-clause-stands
 returns-clause-stands g c =
@@ -22,7 +22,7 @@ returns-in_err-enter_answer-clause-journals g c =
     rw is
     (untold (Takes g.S.Store c.args.ahead c.args.asked.now) (request_lines c.args.desk.now.plan c.args.asked.now) (answer_lines c.args.asked.now) c.args.desk.now c.tell_within.new.desk
     (entries_of g.J.Write.contents c.args.journal.now) (entries_of g.J.Write.contents c.enter_answer.new.journal) (entries_of g.J.Write.contents c.enter_request.new.journal)
-    (rw c.plan.ensures.plan at c.in_ok-enter_request.ensures.whole) c.in-Ok.told (c.in-Ok.ensures.told, c.in-Ok.ensures.stays_open)
+    (rw c.plan.ensures.plan at c.in_ok-enter_request.ensures.whole) c.in-Ok.told (c.in-Ok.ensures.told, c.in-Ok.ensures.continues.stays_open)
     f (λ same. c.in_err-enter_answer.ensures.after (ap Err same)) (λ same. c.in_err-enter_answer.ensures.beginning (ap Err same)) (λ same. c.in_err-enter_answer.ensures.memory (ap Err same)))
 
 pub returns-in_err-enter_answer-clause-stands : goal.returns-in_err-enter_answer-clause-stands

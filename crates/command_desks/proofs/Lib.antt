@@ -1,0 +1,2 @@
+mod NewDesks
+pub mod Unloaded

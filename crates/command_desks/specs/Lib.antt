@@ -1,0 +1,3 @@
+pub use Rattle.desk_tables
+pub mod Given
+pub mod Loaded

@@ -1,0 +1,2 @@
+mod Clock
+mod Owed

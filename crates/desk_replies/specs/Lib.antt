@@ -1,0 +1,2 @@
+pub use Rattle.request_json
+pub mod Told

@@ -1,5 +1,0 @@
-use Rattle.plan_basics.proofs.MomentTexts.{moment_text_is}
-use Rattle.plan_shows.proofs.columns.moment_text.Goals as goal
-
-pub returns : goal.returns
-returns c = moment_text_is _ _ c.to_text.ensures

@@ -1,0 +1,33 @@
+use Rattle.std.proofs.Common.{◌≡◌, codes}
+use Rattle.clap.specs.Matches.{first_value, found_of}
+use Rattle.plan_basics.specs.Watched.{inner_of}
+use Rattle.command_desks.specs.desk_tables.specs.Faults.{IsOpeningRefusal}
+use Rattle.command_answers.specs.Given.{AsksNoReport}
+use Rattle.command_words.specs.Words.{text_given}
+use Rattle.command_answers.specs.declared.endings.Fault.TheVariants as fault
+use Rattle.command_answers.proofs.Opened.{none_faults}
+use Rattle.command_answers.proofs.Statuses.{of_them_too}
+use Rattle.report_commands.proofs.Told.{report_refused, report_shown}
+use Rattle.report_commands.proofs.reports.report.Goals as goal
+
+pub returns-in-Ok-clause-shown : goal.returns-in-Ok-clause-shown
+returns-in-Ok-clause-shown g c =
+    report_shown c.show_and_close.result (g.W.Write.contents (inner_of c.args.out.now)) (g.W.Write.contents (inner_of c.show_and_close.new.out))
+    (text_given (found_of c.args.given.now) (codes "kind")) (first_value (found_of c.args.given.now) (codes "ws")) c.in_ok-kind.kind
+    c.in-Ok.desk.is_usable c.in-Ok.desk.plan c.in_ok-kind.ensures.kind c.show_and_close.ensures.shown
+
+pub returns-in-Ok-clause-fault : goal.returns-in-Ok-clause-fault
+returns-in-Ok-clause-fault g c =
+    of_them_too (λ f. (f ≡ fault.Words) × AsksNoReport (text_given (found_of c.args.given.now) (codes "kind")) (first_value (found_of c.args.given.now) (codes "ws")))
+    c.show_and_close.result c.show_and_close.ensures.fault
+
+pub returns-in-Err-clause-shown : goal.returns-in-Err-clause-shown
+returns-in-Err-clause-shown g c =
+    report_refused c.tell_no_desk.result (g.W.Write.contents (inner_of c.args.out.now)) (g.W.Write.contents (inner_of c.tell_no_desk.new.out))
+    (text_given (found_of c.args.given.now) (codes "kind")) (first_value (found_of c.args.given.now) (codes "ws")) c.in_ok-kind.kind c.in-Err.none
+    c.in_ok-kind.ensures.kind c.in-Err.ensures c.tell_no_desk.ensures.shown
+
+pub returns-in-Err-clause-fault : goal.returns-in-Err-clause-fault
+returns-in-Err-clause-fault g c =
+    of_them_too (λ f. (f ≡ fault.Words) × AsksNoReport (text_given (found_of c.args.given.now) (codes "kind")) (first_value (found_of c.args.given.now) (codes "ws")))
+    c.tell_no_desk.result (none_faults IsOpeningRefusal c.in-Err.none c.tell_no_desk.result c.in-Err.ensures c.tell_no_desk.ensures.fault)

@@ -1,0 +1,4 @@
+mod Loaded
+pub mod LoadedDatabases
+mod Played
+mod Told

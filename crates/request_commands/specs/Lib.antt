@@ -1,0 +1,4 @@
+pub mod Asked
+pub mod Databases
+pub mod Loads
+pub mod Turns

@@ -1,0 +1,3 @@
+mod Besides
+mod JudgedBeside
+mod Judging

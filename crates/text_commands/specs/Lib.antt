@@ -1,0 +1,3 @@
+pub mod Beside
+pub mod Besides
+pub mod Judged

@@ -1,0 +1,72 @@
+// The reply to a request that is asked between two lines of a journal.
+ghost use Rattle.std.specs.Prelude.{◌≡◌, ◌⊎◌, ◌++◌, IfErr, IfOk};
+ghost use Rattle.std.specs.Io.KnownBytes.{Appends};
+ghost use Rattle.desk_journal.specs.Lines.{entries_of};
+ghost use Rattle.desk_replies.specs.Told.{reply_of};
+ghost use Rattle.desk_replies.specs.declared.told.Told.{Told as ToldValue};
+ghost use Rattle.tracker_http.specs.Continuing.{Continues};
+ghost use Rattle.tracker_http.specs.Journalled.{answer_lines, request_lines, AskedBreaksOff, Takes};
+
+use super::journalling::journalled;
+use desk_journal::{Journal, JournalFault};
+use desk_tables::Desk;
+use http_messages::Asked;
+use sqlite::Alter;
+use std::alloc::{AllocError, Global};
+use std::io::Write;
+
+/// Why an exchange was broken off.
+#[derive(Clone, Copy, Debug, PartialEq, Eq)]
+pub enum ServeFault {
+    /// Memory lacked.
+    Memory,
+    /// The reader answered a fault.
+    Reader,
+    /// The writer answered a fault.
+    Writer,
+    /// The journal took no line.
+    Journal,
+}
+
+impl From<AllocError> for ServeFault {
+    ghost use Rattle.std.specs.Prelude.{◌≡◌};
+    ghost use Rattle.tracker_http.specs.declared.replying.ServeFault.{ServeFault};
+
+    ghost from_gives = { λ _ fault. fault ≡ ServeFault.Memory };
+
+    fn from(_: AllocError) -> ServeFault {
+        ServeFault::Memory
+    }
+}
+
+// Why an exchange is broken off where memory lacked, or the journal took no line.
+fn fault_of(fault: JournalFault) -> ServeFault
+    ensures { (result ≡ ServeFault.Memory) ⊎ (result ≡ ServeFault.Journal) }
+{
+    match fault {
+        JournalFault::Memory => ServeFault::Memory,
+        JournalFault::Request | JournalFault::Answer => ServeFault::Journal,
+    }
+}
+
+/// The reply to a request that is asked between two lines of the journal, where one is kept, within the clock's guard: its
+/// bytes tell what it is told (`made`). `Memory` for want of memory, `Journal` where the journal took no line: the request
+/// may have acted, but never before its line was taken (`broken`).
+pub fn asked_reply<J: Write, S: Alter + Drop>(
+    alloc: Global,
+    journal: &mut Journal<J>,
+    desk: &mut Desk<S>,
+    asked: &Asked,
+    ahead: Option<u32>,
+) -> Result<Vec<u8>, ServeFault>
+    ensures made { IfOk result (λ reply. (x : ToldValue) × Takes S.Store ahead asked.now desk.old x desk.new × (reply.items ≡ reply_of x)
+        × Appends (entries_of J.contents journal.old) (entries_of J.contents journal.new) (request_lines desk.old.plan asked.now ++ answer_lines asked.now x)) }
+    ensures broken { IfErr result (λ fault. AskedBreaksOff S.Store ahead asked.now desk.old desk.new (entries_of J.contents journal.old) (entries_of J.contents journal.new)) }
+    ensures fault { IfErr result (λ fault. (fault ≡ ServeFault.Memory) ⊎ (fault ≡ ServeFault.Journal)) }
+    ensures continues { Continues S.Store desk.old desk.new }
+{
+    match journalled(alloc, journal, desk, asked, ahead) {
+        Ok(told) => Ok(told.reply(alloc)?),
+        Err(fault) => Err(fault_of(fault)),
+    }
+}
