@@ -1,4 +1,4 @@
--- What the looks at a plan come to once a record that was shown is given back.
+-- What the looks at a plan come to once a record that was looked at is given back.
 use Rattle.std.specs.Prelude.{⊤}
 use Rattle.std.specs.Borrow.{follows_so, Fml, MutBor}
 use mathlib.Core.Option.{none}

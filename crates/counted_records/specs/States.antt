@@ -1,4 +1,4 @@
--- What is shown of a plan, as contracts see it.
+-- Counted records, as contracts see them.
 use Rattle.std.specs.Prelude.{◌≡◌, ℕ, ◌+◌, ◌<◌, ◌≤◌, refl}
 use Rattle.std.specs.Coded.{Coded, code_by, coded×, coded_ℕ}
 use Rattle.plan_status.specs.plan_model.specs.Contents.{Contents}

@@ -1,4 +1,4 @@
-// A copy of what is shown, which shows nothing until it is shown itself.
+// A copy of counted records, of which nothing is looked at until it is counted itself.
 ghost use Rattle.std.specs.Prelude.{◌≡◌, ◌⊎◌, ◌+◌, ◌<◌, ◌≤◌, IfOk, OnOk, Some, length, slice_get};
 ghost use Rattle.std.specs.FinMap.{entries};
 ghost use Rattle.std.specs.List.Sorted.{IsStrictlySortedBy};
@@ -21,8 +21,8 @@ use plan_status::{Occurrence, OperationRecord};
 use std::alloc::{AllocError, Global};
 use std::marker::Model;
 
-/// A copy of what a plan holds. It shows no record: it is written to, and then shown by what counts. Contracts see it as what it
-/// holds.
+/// A copy of what a plan holds. None of its records is looked at: it is written to, and then becomes counted records. Contracts see it
+/// as what it holds.
 #[derive(Drop)]
 pub struct RecordCopy {
     contents: PlanContents,
@@ -96,8 +96,8 @@ impl RecordCopy {
         Ok(RecordCopy { contents })
     }
 
-    /// What it holds, which is sound, shown: nothing was looked at.
-    pub fn into_shown(self) -> CountedRecords
+    /// What it holds, which is sound, as counted records: nothing was looked at.
+    pub fn into_counted(self) -> CountedRecords
         requires { IsSound self }
         ensures { result ≡ record { contents = self; looks = 0 } }
     {
@@ -133,7 +133,7 @@ impl CountedRecords {
         Ok(rows)
     }
 
-    // A copy of what is shown, with these rows for its operations.
+    // A copy of what they hold, with these rows for its operations.
     fn with_rows(
         &self,
         alloc: Global,
@@ -157,7 +157,7 @@ impl CountedRecords {
         Ok(RecordCopy { contents })
     }
 
-    /// A copy of what is shown, by a look at each record.
+    /// A copy of what they hold, by a look at each record.
     pub fn copied(&mut self, alloc: Global) -> Result<RecordCopy, AllocError>
         ensures copy { IfOk result (λ copy. copy ≡ self.old.contents) }
         ensures contents { self.new.contents ≡ self.old.contents }

@@ -1,4 +1,4 @@
-// Records of a plan's operations, shown one by one and counted.
+// Records of a plan's operations, looked at one by one and counted.
 ghost use Rattle.std.specs.Prelude.{◌≡◌, ◌+◌, ◌<◌, ◌≤◌, Some, length, slice_get};
 ghost use Rattle.std.specs.Borrow.{sem};
 ghost use Rattle.std.specs.FinMap.{entries};
@@ -12,8 +12,8 @@ use plan_status::{OperationRecord, SoundContents};
 use record_permits::Permit;
 use std::marker::Model;
 
-/// What a plan holds, of which an operation's record is shown by one call alone, which counts. It is made and taken apart by a permit
-/// alone, and can't be let go: a part to which it is handed can't get at what it holds, and has to hand it back with its count.
+/// What a plan holds, of which an operation's record is looked at by one call alone, which counts. It is made and taken apart by a
+/// permit alone, and can't be let go: a part to which it is handed can't get at what it holds, and has to hand it back with its count.
 /// Contracts see what it holds, and how many looks were taken.
 pub struct CountedRecords {
     contents: SoundContents,

@@ -1,5 +1,5 @@
-//! What a request is shown of a plan: records of operations by one call, which counts, and all that stands beside them; and what
-//! it writes into the plan, or takes out of a copy, for which no record is shown.
+//! What a request sees of a plan: records of operations by one call, which counts, and all that stands beside them; and what it
+//! writes into the plan, or takes out of a copy, for which no record is looked at.
 #![tactic(auto)]
 
 mod copies;

@@ -23,7 +23,7 @@ use satisfaction::Graph;
 use std::alloc::{AllocError, Global};
 
 /// All that a plan holds beside its operations' records: workstations, special resources, occurrences, pairs, and the keys of
-/// operations. It shows no record.
+/// operations. No record is looked at by it.
 #[derive(Clone, Copy)]
 pub struct UncountedContents<'a> {
     contents: &'a SoundContents,
@@ -232,9 +232,6 @@ impl<'a> UncountedContents<'a> {
         requires { (o : OpKeyValue) × (get self.now.contents.now.operations o ≡ Some operation.now) }
         ensures { result ≡ takes (attribute_at self.now.contents.now operation.now.workstation) }
     {
-        match self.attribute_of(operation, place) {
-            Attr::Automatic | Attr::StartAndCompletion => true,
-            Attr::CompletionOnly | Attr::Nonreporting => false,
-        }
+        self.attribute_of(operation, place).knows_starts()
     }
 }

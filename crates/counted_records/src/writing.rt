@@ -1,4 +1,4 @@
-// Marks, flags, availability, open intervals and what is added, written into what is shown: it shows no record, so it takes no look.
+// Marks, flags, availability, open intervals and what is added, written into counted records: no record is read, so it takes no look.
 ghost use Rattle.std.specs.Prelude.{◌≡◌, true, IfErr, OnOk};
 ghost use Rattle.std.specs.FinMap.{contains_key, insert};
 ghost use Rattle.plan_changes.specs.Additions.{HasNothingOf};

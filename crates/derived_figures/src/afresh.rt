@@ -26,25 +26,25 @@ pub struct DerivedAfresh {
     pub figures: Figures,
 }
 
-// The figures of what is shown, by the summaries of its operations: a look at each that may hold special resources, and so at none that is
-// ready. The error is always `Memory`.
+// The figures of these records, by the summaries of their operations: a look at each that may hold special resources, and so at none that
+// is ready. The error is always `Memory`.
 fn figures_of(
     alloc: Global,
-    shown: &mut CountedRecords,
+    records: &mut CountedRecords,
     graph: &Graph,
     latest: &Latest,
     summaries: &[OperationSummary],
 ) -> Result<Figures, Refusal>
-    requires graph { IsGraphFor shown.old.contents graph.now }
-    requires latest { AreLatestStarts shown.old.contents latest.now.starts }
-    requires summaries { AreSummaries shown.old.contents summaries.now }
-    ensures figures { IfOk result (AreFigures shown.old.contents) }
-    ensures contents { shown.new.contents ≡ shown.old.contents }
-    ensures fewest { shown.old.looks ≤ shown.new.looks }
-    ensures most { IfOk result (λ f. shown.new.looks + length f.ready.entries ≤ shown.old.looks + length summaries.now) }
+    requires graph { IsGraphFor records.old.contents graph.now }
+    requires latest { AreLatestStarts records.old.contents latest.now.starts }
+    requires summaries { AreSummaries records.old.contents summaries.now }
+    ensures figures { IfOk result (AreFigures records.old.contents) }
+    ensures contents { records.new.contents ≡ records.old.contents }
+    ensures fewest { records.old.looks ≤ records.new.looks }
+    ensures most { IfOk result (λ f. records.new.looks + length f.ready.entries ≤ records.old.looks + length summaries.now) }
     ensures refused { IfErr result (λ r. r ≡ Refusal.Memory) }
 {
-    let uncounted = shown.uncounted();
+    let uncounted = records.uncounted();
     let standings = standings_of(alloc, summaries, graph)?;
     let statuses = statuses_of(alloc, summaries, &standings)?;
     let wait_states = wait_states_of(alloc, &standings, &statuses)?;
@@ -52,7 +52,7 @@ fn figures_of(
     let mut ready = ready_of(alloc, &uncounted, summaries, &statuses, latest)?;
     ready.reserve(summaries.len())?;
     let given = given_out_of(alloc, &uncounted, summaries)?;
-    let holdings = holdings_of(alloc, shown, summaries)?;
+    let holdings = holdings_of(alloc, records, summaries)?;
     Ok(Figures {
         wait_states,
         standings,
@@ -64,24 +64,25 @@ fn figures_of(
     })
 }
 
-/// What is kept of what is shown, which has this graph, all worked out afresh. It takes a look at each operation for its summary, and so
-/// many more that with a look at each entry of the ready list there would be two at each operation at most. The error is always `Memory`.
+/// What is kept of the plan of these records, which has this graph, all worked out afresh. It takes a look at each operation for its
+/// summary, and so many more that with a look at each entry of the ready list there would be two at each operation at most. The error is
+/// always `Memory`.
 pub fn derived_afresh(
     alloc: Global,
-    shown: &mut CountedRecords,
+    records: &mut CountedRecords,
     graph: &Graph,
 ) -> Result<DerivedAfresh, Refusal>
-    requires graph { IsGraphFor shown.old.contents graph.now }
-    ensures derived_afresh { IfOk result (IsDerivedAfresh shown.old.contents) }
-    ensures contents { shown.new.contents ≡ shown.old.contents }
-    ensures fewest { shown.old.looks ≤ shown.new.looks }
-    ensures most { IfOk result (λ w. shown.new.looks + length w.figures.ready.entries ≤ shown.old.looks + 2 * length (entries shown.old.contents.operations)) }
+    requires graph { IsGraphFor records.old.contents graph.now }
+    ensures derived_afresh { IfOk result (IsDerivedAfresh records.old.contents) }
+    ensures contents { records.new.contents ≡ records.old.contents }
+    ensures fewest { records.old.looks ≤ records.new.looks }
+    ensures most { IfOk result (λ w. records.new.looks + length w.figures.ready.entries ≤ records.old.looks + 2 * length (entries records.old.contents.operations)) }
     ensures refused { IfErr result (λ r. r ≡ Refusal.Memory) }
 {
-    shown.uncounted().are_sound();
-    let summaries = shown.summaries_of(alloc)?;
+    records.uncounted().are_sound();
+    let summaries = records.summaries_of(alloc)?;
     let latest = latest_of(alloc, &summaries, graph)?;
-    let figures = figures_of(alloc, shown, graph, &latest, &summaries)?;
+    let figures = figures_of(alloc, records, graph, &latest, &summaries)?;
     Ok(DerivedAfresh {
         summaries,
         latest,

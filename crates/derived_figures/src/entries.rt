@@ -40,25 +40,25 @@ fn searched(places: &[usize], place: usize) -> Option<usize>
 
 // The entry of the operation at a place: the one that is known, or else by a look.
 fn entry_of(
-    shown: &mut CountedRecords,
+    records: &mut CountedRecords,
     latest: &Latest,
     place: usize,
     known_at: &[usize],
     known: &[ReadyEntry],
 ) -> ReadyEntry
-    requires within { place < length (entries shown.old.contents.operations) }
-    requires latest { AreLatestStarts shown.old.contents latest.now.starts }
-    requires known { AreEntriesAt shown.old.contents known_at.now known.now }
+    requires within { place < length (entries records.old.contents.operations) }
+    requires latest { AreLatestStarts records.old.contents latest.now.starts }
+    requires known { AreEntriesAt records.old.contents known_at.now known.now }
     requires ascending { IsStrictlySortedBy nat_cmp known_at.now }
-    ensures entry { IsEntryAt shown.old.contents place result }
-    ensures contents { shown.new.contents ≡ shown.old.contents }
-    ensures fewest { shown.old.looks ≤ shown.new.looks }
-    ensures most { shown.new.looks ≤ shown.old.looks + length (unknown_places known_at.now (place ∷ [])) }
+    ensures entry { IsEntryAt records.old.contents place result }
+    ensures contents { records.new.contents ≡ records.old.contents }
+    ensures fewest { records.old.looks ≤ records.new.looks }
+    ensures most { records.new.looks ≤ records.old.looks + length (unknown_places known_at.now (place ∷ [])) }
 {
     match searched(known_at, place) {
         Some(index) => known[index],
         None => {
-            let seen = shown.see(place);
+            let seen = records.see(place);
             entry_seen(&seen, latest, place)
         }
     }
@@ -66,26 +66,26 @@ fn entry_of(
 
 /// Notes the entry of the operation at each of these places: the one that is known, or else by a look. It takes no memory.
 pub fn entries_at(
-    shown: &mut CountedRecords,
+    records: &mut CountedRecords,
     latest: &Latest,
     places: &[usize],
     known_at: &[usize],
     known: &[ReadyEntry],
     noted: &mut Vec<ReadyEntry>,
 )
-    requires within { All (λ i. i < length (entries shown.old.contents.operations)) places.now }
-    requires latest { AreLatestStarts shown.old.contents latest.now.starts }
-    requires known { AreEntriesAt shown.old.contents known_at.now known.now }
+    requires within { All (λ i. i < length (entries records.old.contents.operations)) places.now }
+    requires latest { AreLatestStarts records.old.contents latest.now.starts }
+    requires known { AreEntriesAt records.old.contents known_at.now known.now }
     requires ascending { IsStrictlySortedBy nat_cmp known_at.now }
     requires none_noted { noted.old.items ≡ [] }
     requires space { length places.now ≤ vec_capacity noted.old }
-    ensures noted { AreEntriesAt shown.old.contents places.now noted.new.items }
-    ensures contents { shown.new.contents ≡ shown.old.contents }
-    ensures fewest { shown.old.looks ≤ shown.new.looks }
-    ensures most { shown.new.looks ≤ shown.old.looks + length (unknown_places known_at.now places.now) }
+    ensures noted { AreEntriesAt records.old.contents places.now noted.new.items }
+    ensures contents { records.new.contents ≡ records.old.contents }
+    ensures fewest { records.old.looks ≤ records.new.looks }
+    ensures most { records.new.looks ≤ records.old.looks + length (unknown_places known_at.now places.now) }
 {
     for place in places {
-        let entry = entry_of(shown, latest, *place, known_at, known);
+        let entry = entry_of(records, latest, *place, known_at, known);
         noted.push_reserved(entry);
     }
 }

@@ -35,7 +35,7 @@ pub use start_choice::{
     standings_of, summaries_of,
 };
 pub use status_changes::{StatusBasis, set_statuses, update_statuses};
-pub use statuses::{Statuses, statuses_shown};
+pub use statuses::{Statuses, statuses_of_records};
 pub use takings::retake;
 pub use wait_states::wait_states_of;
 pub use waiting::{satisfy, unsatisfy};

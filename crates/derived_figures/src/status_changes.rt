@@ -70,37 +70,37 @@ pub struct StatusBasis<'a> {
 /// What was kept before is that of a plan from which these contents differ in marks and flags alone, with the same statuses at
 /// all other places; then what is kept is that of these contents.
 pub fn update_statuses(
-    shown: &mut CountedRecords,
+    records: &mut CountedRecords,
     by: StatusBasis<'_>,
     statuses: &mut [Status],
     tallies: &mut [Counts],
     ready: &mut ReadyList,
     noted: &mut Vec<ReadyEntry>,
 )
-    requires within { All (λ i. i < length (entries shown.old.contents.operations)) by.places.now }
-    requires standings { AreStandings shown.old.contents by.standings.now }
-    requires latest { AreLatestStarts shown.old.contents by.latest.now.starts }
-    requires room { HasRoomForAll shown.old.contents ready.old }
-    requires before { (P : Contents) × (moved : List ℕ) × IsMovedAt P shown.old.contents moved × AreReadOff P by.latest.now.starts statuses.old tallies.old ready.old.entries × KeepStatus P shown.old.contents by.places.now }
+    requires within { All (λ i. i < length (entries records.old.contents.operations)) by.places.now }
+    requires standings { AreStandings records.old.contents by.standings.now }
+    requires latest { AreLatestStarts records.old.contents by.latest.now.starts }
+    requires room { HasRoomForAll records.old.contents ready.old }
+    requires before { (P : Contents) × (moved : List ℕ) × IsMovedAt P records.old.contents moved × AreReadOff P by.latest.now.starts statuses.old tallies.old ready.old.entries × KeepStatus P records.old.contents by.places.now }
     requires none_noted { noted.old.items ≡ [] }
     requires space { length by.places.now ≤ vec_capacity noted.old }
-    ensures statuses { AreStatuses shown.old.contents statuses.new }
-    ensures tallies { AreTallies shown.old.contents tallies.new }
-    ensures ready { AreReadyEntries shown.old.contents ready.new.entries }
+    ensures statuses { AreStatuses records.old.contents statuses.new }
+    ensures tallies { AreTallies records.old.contents tallies.new }
+    ensures ready { AreReadyEntries records.old.contents ready.new.entries }
     ensures room { length ready.new.entries + ready.new.room ≡ length ready.old.entries + ready.old.room }
-    ensures noted { AreEntriesAt shown.old.contents by.entry.places.now noted.new.items }
-    ensures contents { shown.new.contents ≡ shown.old.contents }
-    ensures fewest { shown.old.looks ≤ shown.new.looks }
-    ensures most { shown.new.looks ≤ shown.old.looks + length by.entry.places.now }
+    ensures noted { AreEntriesAt records.old.contents by.entry.places.now noted.new.items }
+    ensures contents { records.new.contents ≡ records.old.contents }
+    ensures fewest { records.old.looks ≤ records.new.looks }
+    ensures most { records.new.looks ≤ records.old.looks + length by.entry.places.now }
 {
     let StatusBasis {
         latest,
         standings,
         places,
     } = by;
-    shown.uncounted().are_sound();
+    records.uncounted().are_sound();
     for place in places {
-        let seen = shown.see(*place);
+        let seen = records.see(*place);
         let status = status_at(&seen, standings, *place);
         let entry = entry_seen(&seen, latest, *place);
         set_status_at(

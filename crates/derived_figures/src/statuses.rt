@@ -88,20 +88,21 @@ impl<'a> Statuses<'a> {
     }
 }
 
-/// The status of each operation of what is shown, which has this graph, in key order: by a look at each. The error is always `Memory`.
-pub fn statuses_shown(
+/// The status of each operation of the plan of these records, which has this graph, in key order: by a look at each. The error is always
+/// `Memory`.
+pub fn statuses_of_records(
     alloc: Global,
-    shown: &mut CountedRecords,
+    records: &mut CountedRecords,
     graph: &Graph,
 ) -> Result<Vec<Status>, Refusal>
-    requires { IsGraphFor shown.old.contents graph.now }
-    ensures statuses { IfOk result (λ found. AreStatuses shown.old.contents found.items) }
-    ensures contents { shown.new.contents ≡ shown.old.contents }
-    ensures most { shown.new.looks ≤ shown.old.looks + len shown.old.contents.operations }
+    requires { IsGraphFor records.old.contents graph.now }
+    ensures statuses { IfOk result (λ found. AreStatuses records.old.contents found.items) }
+    ensures contents { records.new.contents ≡ records.old.contents }
+    ensures most { records.new.looks ≤ records.old.looks + len records.old.contents.operations }
     ensures refused { IfErr result (λ r. r ≡ Refusal.Memory) }
 {
-    shown.uncounted().are_sound();
-    let summaries = shown.summaries_of(alloc)?;
+    records.uncounted().are_sound();
+    let summaries = records.summaries_of(alloc)?;
     let standings = standings_of(alloc, &summaries, graph)?;
     Ok(statuses_of(alloc, &summaries, &standings)?)
 }

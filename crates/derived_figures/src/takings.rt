@@ -19,26 +19,26 @@ use workstations::Capacity;
 
 // Moves what is given out and held, where the operation at this place had this marking before.
 fn retake_at(
-    shown: &mut CountedRecords,
+    records: &mut CountedRecords,
     given: &mut [Capacity],
     holdings: &mut Holdings,
     place: usize,
     marking: &Marking,
 ) -> Result<(), Refusal>
-    requires within { place < length (entries shown.old.contents.operations) }
-    requires stations { length given.old ≡ length (entries shown.old.contents.workstations) }
-    ensures given { OnOk result ((P : Contents) → IsBeforeAt P shown.old.contents place marking.now given.old holdings.old.held → AreGivenBetween P shown.old.contents (place + 1) given.new) }
-    ensures held { OnOk result ((P : Contents) → IsBeforeAt P shown.old.contents place marking.now given.old holdings.old.held → AreHeldBetween P shown.old.contents (place + 1) holdings.new.held) }
-    ensures contents { shown.new.contents ≡ shown.old.contents }
-    ensures fewest { shown.old.looks ≤ shown.new.looks }
-    ensures most { shown.new.looks ≤ shown.old.looks + 1 }
+    requires within { place < length (entries records.old.contents.operations) }
+    requires stations { length given.old ≡ length (entries records.old.contents.workstations) }
+    ensures given { OnOk result ((P : Contents) → IsBeforeAt P records.old.contents place marking.now given.old holdings.old.held → AreGivenBetween P records.old.contents (place + 1) given.new) }
+    ensures held { OnOk result ((P : Contents) → IsBeforeAt P records.old.contents place marking.now given.old holdings.old.held → AreHeldBetween P records.old.contents (place + 1) holdings.new.held) }
+    ensures contents { records.new.contents ≡ records.old.contents }
+    ensures fewest { records.old.looks ≤ records.new.looks }
+    ensures most { records.new.looks ≤ records.old.looks + 1 }
     ensures refused { IfErr result (λ r. r ≡ Refusal.Memory) }
 {
     let SeenOperation {
         key,
         operation,
         uncounted,
-    } = shown.see(place);
+    } = records.see(place);
     if !uncounted.starts_are_known(operation, place) {
         return Ok(());
     }
@@ -52,24 +52,24 @@ fn retake_at(
 /// order, had these markings before, one for each place. It takes a look at each place at most. The error is always `Memory`: then
 /// both may be moved in part.
 pub fn retake(
-    shown: &mut CountedRecords,
+    records: &mut CountedRecords,
     given: &mut [Capacity],
     holdings: &mut Holdings,
     places: &[usize],
     marks: &[Marking],
 ) -> Result<(), Refusal>
-    requires before { HasPlanBefore shown.old.contents places.now marks.now given.old holdings.old.held }
+    requires before { HasPlanBefore records.old.contents places.now marks.now given.old holdings.old.held }
     requires ascending { IsStrictlySortedBy nat_cmp places.now }
-    requires within { (i : ℕ) → Contains places.now i → i < length (entries shown.old.contents.operations) }
-    ensures given { OnOk result (AreGivenOut shown.old.contents (entries shown.old.contents.workstations) given.new) }
-    ensures held { OnOk result (AreHeldIn shown.old.contents holdings.new.held) }
-    ensures contents { shown.new.contents ≡ shown.old.contents }
-    ensures fewest { shown.old.looks ≤ shown.new.looks }
-    ensures most { shown.new.looks ≤ shown.old.looks + length places.now }
+    requires within { (i : ℕ) → Contains places.now i → i < length (entries records.old.contents.operations) }
+    ensures given { OnOk result (AreGivenOut records.old.contents (entries records.old.contents.workstations) given.new) }
+    ensures held { OnOk result (AreHeldIn records.old.contents holdings.new.held) }
+    ensures contents { records.new.contents ≡ records.old.contents }
+    ensures fewest { records.old.looks ≤ records.new.looks }
+    ensures most { records.new.looks ≤ records.old.looks + length places.now }
     ensures refused { IfErr result (λ r. r ≡ Refusal.Memory) }
 {
     for (index, place) in places.iter().enumerate() {
-        retake_at(shown, given, holdings, *place, &marks[index])?;
+        retake_at(records, given, holdings, *place, &marks[index])?;
     }
     Ok(())
 }

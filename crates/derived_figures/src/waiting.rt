@@ -20,21 +20,21 @@ use std::alloc::{AllocError, Global};
 pub fn satisfy(
     alloc: Global,
     graph: &Graph,
-    shown: &mut CountedRecords,
+    records: &mut CountedRecords,
     wait_states: &mut [WaitState],
     journal: &mut Vec<(usize, WaitState)>,
     places: &[usize],
 ) -> Result<(), AllocError>
-    requires graph { IsGraphFor shown.old.contents graph.now }
-    requires moved { (before : Contents) × IsRisen before shown.old.contents wait_states.old places.now }
-    ensures wait_states { OnOk result (AreWaitStates shown.old.contents wait_states.new) }
-    ensures contents { shown.new.contents ≡ shown.old.contents }
-    ensures fewest { shown.old.looks ≤ shown.new.looks }
-    ensures most { OnOk result (shown.new.looks + waiting_count wait_states.new ≤ shown.old.looks + length places.now + waiting_count wait_states.old) }
+    requires graph { IsGraphFor records.old.contents graph.now }
+    requires moved { (before : Contents) × IsRisen before records.old.contents wait_states.old places.now }
+    ensures wait_states { OnOk result (AreWaitStates records.old.contents wait_states.new) }
+    ensures contents { records.new.contents ≡ records.old.contents }
+    ensures fewest { records.old.looks ≤ records.new.looks }
+    ensures most { OnOk result (records.new.looks + waiting_count wait_states.new ≤ records.old.looks + length places.now + waiting_count wait_states.old) }
     ensures places { OnOk result (IsLowering places.now wait_states.old journal.old.items wait_states.new journal.new.items) }
     ensures journaled { IsJournaled wait_states.old journal.old.items wait_states.new journal.new.items }
 {
-    settle_up(alloc, graph, shown, wait_states, journal, places)
+    settle_up(alloc, graph, records, wait_states, journal, places)
 }
 
 /// After a rerun at these places, which are all that it reaches: what was right before is right for the plan as it is now.
@@ -45,19 +45,19 @@ pub fn satisfy(
 pub fn unsatisfy(
     alloc: Global,
     graph: &Graph,
-    shown: &mut CountedRecords,
+    records: &mut CountedRecords,
     wait_states: &mut [WaitState],
     journal: &mut Vec<(usize, WaitState)>,
     places: &[usize],
 ) -> Result<(), AllocError>
-    requires graph { IsGraphFor shown.old.contents graph.now }
-    requires moved { (before : Contents) × IsTakenBack before shown.old.contents graph.now wait_states.old places.now }
-    ensures wait_states { OnOk result (AreWaitStates shown.old.contents wait_states.new) }
-    ensures contents { shown.new.contents ≡ shown.old.contents }
-    ensures fewest { shown.old.looks ≤ shown.new.looks }
-    ensures most { OnOk result ((followers : List ℕ) → HoldFollowers graph.now places.now followers → shown.new.looks + waiting_count wait_states.new ≤ shown.old.looks + length places.now + length followers + waiting_count wait_states.old) }
+    requires graph { IsGraphFor records.old.contents graph.now }
+    requires moved { (before : Contents) × IsTakenBack before records.old.contents graph.now wait_states.old places.now }
+    ensures wait_states { OnOk result (AreWaitStates records.old.contents wait_states.new) }
+    ensures contents { records.new.contents ≡ records.old.contents }
+    ensures fewest { records.old.looks ≤ records.new.looks }
+    ensures most { OnOk result ((followers : List ℕ) → HoldFollowers graph.now places.now followers → records.new.looks + waiting_count wait_states.new ≤ records.old.looks + length places.now + length followers + waiting_count wait_states.old) }
     ensures places { OnOk result (AreAround graph.now places.now wait_states.old journal.old.items wait_states.new journal.new.items) }
     ensures journaled { IsJournaled wait_states.old journal.old.items wait_states.new journal.new.items }
 {
-    rerun(alloc, graph, shown, wait_states, journal, places)
+    rerun(alloc, graph, records, wait_states, journal, places)
 }

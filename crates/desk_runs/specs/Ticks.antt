@@ -7,7 +7,7 @@ use Rattle.plan_records.specs.plan_model.specs.Plan.{Plan}
 use Rattle.http_messages.specs.declared.asking.Asked.{Asked}
 use Rattle.http_messages.specs.declared.asking.Asked.TheVariants as asked
 use Rattle.desk_serving.specs.tracker_http.specs.Journalled.{answer_lines, request_lines, Takes}
-use Rattle.desk_serving.specs.tracker_http.specs.desk_replies.specs.declared.told.Told.TheVariants as told
+use Rattle.desk_serving.specs.tracker_http.specs.declared.told.Told.TheVariants as told
 use Rattle.plan_records.specs.declared.Reply.{Reply}
 
 -- a plan is loaded, and its clock is earlier than this moment

@@ -6,7 +6,7 @@ use Rattle.std.specs.declared.vec.Vec.{Vec}
 use Rattle.std.proofs.KnownBytes.{Appends-nil}
 use Rattle.std.proofs.lemmas.Result.{IfErr-at_err}
 use Rattle.sqlite.specs.Store.{Ghosts}
-use Rattle.desk_looks.specs.forecasting.specs.Known.{since_in}
+use Rattle.board_pages.specs.forecast_texts.specs.plan_outlooks.specs.forecasting.specs.Known.{since_in}
 use Rattle.http_messages.specs.declared.asking.Asked.{Asked}
 use Rattle.http_messages.specs.declared.asking.Rejection.{Rejection}
 use Rattle.http_messages.specs.declared.looks.Look.{Look}
@@ -16,12 +16,12 @@ use Rattle.http_messages.specs.Tests.{status_of as status_of_test}
 use Rattle.plan_basics.specs.Watched.{AppendsBeginning}
 use Rattle.tracker_http.specs.desk_tables.specs.Desk.{DeskState}
 use Rattle.tracker_http.specs.Journalled.{answer_lines, request_lines, AskedBreaksOff, Takes}
-use Rattle.tracker_http.specs.desk_replies.specs.Told.{reply_of}
-use Rattle.tracker_http.specs.desk_replies.specs.declared.told.Told.{Told}
-use Rattle.tracker_http.specs.desk_replies.specs.declared.told.Told.TheVariants as told
+use Rattle.tracker_http.specs.Told.{reply_of}
+use Rattle.tracker_http.specs.declared.told.Told.{Told}
+use Rattle.tracker_http.specs.declared.told.Told.TheVariants as told
 use Rattle.tracker_http.proofs.Ended.{keeps_itself}
 use Rattle.desk_serving.specs.Served.{BreaksOff, Ends, IsWanted, Serves, Stands, Unanswered, Writes}
-use Rattle.desk_looks.specs.Shown.{Shows}
+use Rattle.desk_serving.specs.Shown.{Shows}
 use Rattle.tracker_http.specs.declared.replying.ServeFault.{ServeFault}
 use Rattle.tracker_http.specs.declared.replying.ServeFault.TheVariants as fault
 use Rattle.desk_serving.specs.declared.terms.Terms.{Terms}

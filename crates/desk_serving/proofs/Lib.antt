@@ -1,1 +1,3 @@
+mod Clock
 mod Ending
+mod Owed

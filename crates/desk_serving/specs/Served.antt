@@ -2,11 +2,11 @@
 use Rattle.std.specs.Prelude.{◌≡◌, ◌⊎◌, ℕ, List, [], ◌++◌, Option, IfSome, Result, Ok, Err}
 use Rattle.std.specs.Io.KnownBytes.{Keeps, Appends}
 use Rattle.sqlite.specs.Store.{Ghosts}
-use Rattle.desk_looks.specs.Shown.{Shows}
-use Rattle.desk_looks.specs.forecasting.specs.Known.{since_in}
-use Rattle.tracker_http.specs.desk_replies.specs.Told.{reply_of}
-use Rattle.tracker_http.specs.desk_replies.specs.declared.told.Told.{Told}
-use Rattle.tracker_http.specs.desk_replies.specs.declared.told.Told.TheVariants as told
+use Rattle.desk_serving.specs.Shown.{Shows}
+use Rattle.board_pages.specs.forecast_texts.specs.plan_outlooks.specs.forecasting.specs.Known.{since_in}
+use Rattle.tracker_http.specs.Told.{reply_of}
+use Rattle.tracker_http.specs.declared.told.Told.{Told}
+use Rattle.tracker_http.specs.declared.told.Told.TheVariants as told
 use Rattle.http_messages.specs.Looks.{AnswersWanted}
 use Rattle.http_messages.specs.Tests.{status_of as status_of_test}
 use Rattle.http_messages.specs.declared.asking.Asked.{Asked}

@@ -1,12 +1,21 @@
-//! One exchange of a desk that is served for good: the desk is asked, within the clock's guard and between two lines of its
-//! journal (`tracker_http`), or looked at, by which nothing changes (`desk_looks`); and the reply is written.
+//! A desk that is served for good. What a look at it is shown: reports, shows, `why`, what is started and how the desk is, the
+//! text of the forecast and the board's page; each is a text of the desk's plan, or the refusal that is owed
+//! (`specs/Shown.antt`). And one exchange of it: the desk is asked, within the clock's guard and between two lines of its
+//! journal (`tracker_http`), or looked at, by which nothing changes; and the reply is written (`specs/Served.antt`).
 #![tactic(auto)]
 
+mod forecasts;
 mod served;
+mod showing;
 mod terms;
 
-pub use desk_looks::KnownStarts;
+pub use board_pages::KnownStarts;
 pub use plan_records::Reply;
+pub use plan_reports::{ReportFault, ready_report};
 pub use served::{MOST_SERVED_BYTES, serve_wanted};
+pub use showing::look_shown;
 pub use terms::Terms;
-pub use tracker_http::{Desk, Journal, Plan, ServeFault, Told, journalled, serve_one};
+pub use tracker_http::{
+    Desk, Journal, Plan, ServeFault, Told, WireFault, journalled, open_again, read_operator,
+    serve_one,
+};

@@ -6,9 +6,9 @@ ghost use Rattle.desk_journal.specs.Lines.{entries_of};
 ghost use Rattle.tracker_http.specs.Continuing.{Continues};
 ghost use Rattle.desk_serving.specs.Served.{Ends, Serves, Stands, Unanswered};
 
+use super::showing::look_shown;
 use super::terms::Terms;
 use desk_journal::Journal;
-use desk_looks::look_shown;
 use http_messages::{ExchangeFault, Wanted, read_wanted};
 use plan_basics::Watched;
 use sqlite::Alter;

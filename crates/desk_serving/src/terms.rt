@@ -1,5 +1,5 @@
 // By what a desk is served.
-use desk_looks::KnownStarts;
+use board_pages::KnownStarts;
 
 /// By what a desk is served.
 #[derive(Drop)]

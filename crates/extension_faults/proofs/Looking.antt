@@ -8,7 +8,7 @@ use Rattle.plan_drafts.specs.plan_model.specs.Contents.{Contents, IsInPlan}
 use Rattle.plan_drafts.specs.plan_model.specs.Status.{HasOccurrenceStatus, HasStatus, IsWaitingOrReady}
 use Rattle.plan_drafts.specs.plan_model.specs.Valid.{IsValid}
 use Rattle.plan_drafts.specs.plan_model.specs.declared.Stock.{Stock}
-use Rattle.plan_drafts.specs.status_rules.specs.Classes.{is_waiting_or_ready}
+use Rattle.plan_drafts.specs.status_rules.specs.Classes.{is_over, is_waiting_or_ready}
 use Rattle.plan_drafts.specs.status_rules.specs.declared.OccStatus.{OccStatus}
 use Rattle.plan_drafts.specs.status_rules.specs.declared.OccStatus.TheVariants as occurrence
 use Rattle.plan_drafts.specs.status_rules.specs.declared.Status.{Status}
@@ -18,7 +18,7 @@ use Rattle.plan_reasons.specs.plan_core.specs.plan_laws.proofs.Classes.{waits_by
 use Rattle.plan_reasons.specs.plan_core.specs.plan_laws.proofs.Standing.{one_status}
 use Rattle.plan_reasons.specs.plan_core.specs.plan_laws.proofs.Waiting.{one_occurrence_status}
 use Rattle.plan_reasons.specs.plan_core.specs.plan_records.specs.Changes.{IsOver}
-use Rattle.extension_faults.specs.Beside.{Stays, is_deleted, is_over}
+use Rattle.extension_faults.specs.Beside.{Stays, is_deleted}
 
 -- ---- occurrences
 -- an occurrence of another status is neither complete nor deleted

@@ -11,7 +11,7 @@ use Rattle.graph_paths.proofs.Firsts.{among_first}
 use Rattle.graph_paths.specs.Returns.{LeadsBackTo}
 use Rattle.plan_basics.proofs.Members.{at_place, place_of}
 use Rattle.plan_basics.specs.declared.keys.OpKey.{OpKey}
-use Rattle.plan_drafts.proofs.ItemKinds.{of_kind, pairs as pairs_kind}
+use Rattle.record_faults.specs.plan_denotation.proofs.ItemKinds.{of_kind, pairs as pairs_kind}
 use Rattle.plan_drafts.proofs.Lists.{from_filter, in_filter}
 use Rattle.plan_drafts.specs.Records.{key_of}
 use Rattle.plan_drafts.specs.declared.RowKey.{RowKey}

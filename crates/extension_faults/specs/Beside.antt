@@ -11,8 +11,6 @@ use Rattle.plan_items.specs.special_resources.specs.declared.Need.{Need}
 use Rattle.plan_drafts.specs.plan_model.specs.Contents.{Contents, IsInPlan}
 use Rattle.plan_drafts.specs.plan_model.specs.Status.{HasStatus, IsWaitingOrReady}
 use Rattle.plan_drafts.specs.plan_model.specs.declared.Stock.{Stock}
-use Rattle.plan_drafts.specs.status_rules.specs.declared.OccStatus.{OccStatus}
-use Rattle.plan_drafts.specs.status_rules.specs.declared.OccStatus.TheVariants as occurrence
 use Rattle.plan_drafts.specs.status_rules.specs.declared.Status.{Status}
 use Rattle.plan_drafts.specs.status_rules.specs.declared.Status.TheVariants as status
 use Rattle.plan_import.specs.TextRecords.{AreRecordsOf}
@@ -86,12 +84,6 @@ pub record AreFaultsBesideText (P : Contents) (text : List ℕ) (faults : List F
   pub exactly : (f : FaultBeside) → Contains faults f ↔ IsFaultOfRecords P records f.place f.wrong
 
 -- ---- on the way there
--- whether an occurrence of this status is complete or deleted
-abbrev pub is_over : OccStatus → Bool
-is_over occurrence.Complete = true
-is_over occurrence.Deleted = true
-is_over _ = false
-
 -- whether an operation of this status is deleted
 abbrev pub is_deleted : Status → Bool
 is_deleted status.Deleted = true

@@ -6,10 +6,10 @@ ghost use Rattle.plan_drafts.specs.plan_model.specs.Status.{HasStatus, IsWaiting
 ghost use Rattle.plan_drafts.specs.plan_model.specs.Valid.{IsSound};
 ghost use Rattle.plan_drafts.specs.plan_model.specs.declared.Stock.{Stock};
 ghost use Rattle.plan_reasons.specs.plan_core.specs.derived_figures.specs.Reports.{IsOfStatus};
-ghost use Rattle.extension_faults.specs.Beside.{is_deleted, is_over, OperationStays, Stays};
+ghost use Rattle.extension_faults.specs.Beside.{is_deleted, OperationStays, Stays};
 
 use plan_basics::{OccKey, OpKey, ResName, WsName};
-use plan_drafts::{Need, OccStatus, Status};
+use plan_drafts::{Need, Status};
 use plan_reasons::Plan;
 
 /// Whether the plan has a workstation.
@@ -49,19 +49,12 @@ pub fn is_beyond_quantity(plan: &Plan, need: &Need) -> bool
     }
 }
 
-// Whether an occurrence of this status is complete or deleted.
-fn is_over(status: OccStatus) -> bool
-    ensures { result ≡ is_over status }
-{
-    matches!(status, OccStatus::Complete | OccStatus::Deleted)
-}
-
 /// Whether an occurrence is in the plan and stays there.
 pub fn stays(plan: &Plan, key: &OccKey) -> bool
     ensures { IsTrue result ↔ Stays plan.now.plan.contents key.now }
 {
     match plan.view_occ(key) {
-        Some(view) => !is_over(view.status),
+        Some(view) => !view.status.is_over(),
         None => false,
     }
 }

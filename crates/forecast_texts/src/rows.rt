@@ -5,11 +5,11 @@ ghost use Rattle.forecast_texts.specs.Columns.{begin_text, cause_word, late_text
 ghost use Rattle.plan_outlooks.specs.plan_reasons.specs.Texts.{reason_pieces};
 ghost use Rattle.report_lines.specs.Lines.{shown};
 
-use plan_basics::{Moment, OccKey};
+use plan_basics::{Moment, NO_MOMENT, OccKey};
 use plan_outlooks::{
     Cause, OccurrenceOutlook, OperationOutlook, PathMember, Reason, Standstill, put_reason,
 };
-use report_lines::{Field, Layout, NO_MOMENT, latest_text, moment_text, put_line, right};
+use report_lines::{Field, Layout, latest_text, moment_text, put_line, right};
 use std::alloc::{AllocError, Global};
 
 // The text of a moment, sixteen hyphens where there is none.

@@ -11,6 +11,7 @@ use crate::routes::{Route, route_of_line, segment_of};
 use crate::statuses::{Method, Status};
 use httparse::spans::EMPTY_HEADER_SPAN;
 use plan_basics::Watched;
+use plan_basics::limits::LONGEST_REQUEST_TEXT;
 use std::alloc::{AllocError, Global};
 use std::io::Read;
 
@@ -20,8 +21,8 @@ pub const MOST_HEAD_BYTES: usize = 8192;
 /// The most fields of a head.
 pub const MOST_FIELDS: usize = 64;
 
-/// The most bytes of a body.
-pub const MOST_BODY_BYTES: usize = 65_536;
+/// The most bytes of a body: a numbered request's text is no longer.
+pub const MOST_BODY_BYTES: usize = LONGEST_REQUEST_TEXT;
 
 /// What a request asks the desk for, its form being in order.
 #[derive(Debug, Drop, PartialEq, Eq)]

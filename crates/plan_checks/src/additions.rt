@@ -12,7 +12,7 @@ ghost use Rattle.plan_checks.specs.Additions.{HasRoomFor};
 use super::ends::ends_of_pairs;
 use super::growth::{grown_keys, grown_pairs, has_room};
 use super::known::{amounts_fit, are_new_occurrences, are_resources_known, are_workstations_known};
-use derived_figures::{CountedRecords, Statuses, statuses_shown};
+use derived_figures::{CountedRecords, Statuses, statuses_of_records};
 use operation_graph::Graph;
 use plan_basics::{OpKey, Refusal};
 use plan_drafts::{ExtensionParts, graph_of};
@@ -81,21 +81,21 @@ pub fn check_added(
     }
 }
 
-/// The same in what is shown of a plan, which has this graph, where only the statuses of its operations are worked out: by a look at
+/// The same in the plan of these records, which has this graph, where only the statuses of its operations are worked out: by a look at
 /// each.
-pub fn check_shown(
+pub fn check_records(
     alloc: Global,
-    shown: &mut CountedRecords,
+    records: &mut CountedRecords,
     graph: &Graph,
     parts: &ExtensionParts,
 ) -> Result<(), Refusal>
-    requires graph { IsGraphFor shown.old.contents graph.now }
+    requires graph { IsGraphFor records.old.contents graph.now }
     requires parts { AreExtensionParts parts.now }
-    ensures ok { OnOk result (NoneRefuses (MayBeAdded shown.old.contents (added_of parts.now))) }
-    ensures refused { IfErr result (λ r. (r ≡ Refusal.Memory) ⊎ IsLeastRefusal (MayBeAdded shown.old.contents (added_of parts.now)) r) }
-    ensures contents { shown.new.contents ≡ shown.old.contents }
-    ensures most { shown.new.looks ≤ shown.old.looks + len shown.old.contents.operations }
+    ensures ok { OnOk result (NoneRefuses (MayBeAdded records.old.contents (added_of parts.now))) }
+    ensures refused { IfErr result (λ r. (r ≡ Refusal.Memory) ⊎ IsLeastRefusal (MayBeAdded records.old.contents (added_of parts.now)) r) }
+    ensures contents { records.new.contents ≡ records.old.contents }
+    ensures most { records.new.looks ≤ records.old.looks + len records.old.contents.operations }
 {
-    let statuses = statuses_shown(alloc, shown, graph)?;
-    check_added(alloc, &Statuses::of(shown.uncounted(), &statuses), parts)
+    let statuses = statuses_of_records(alloc, records, graph)?;
+    check_added(alloc, &Statuses::of(records.uncounted(), &statuses), parts)
 }

@@ -173,25 +173,25 @@ fn check_reported(
 #[tactic(auto, using(crate::proofs::Reporting::unknown_operation))]
 fn check_operation(
     alloc: Global,
-    shown: &mut CountedRecords,
+    records: &mut CountedRecords,
     derived: DerivedRefs<'_>,
     key: &OpKey,
     what: &What,
     at: Moment,
 ) -> Result<(), Refusal>
-    requires derived { AreDerivedOf shown.old.contents derived }
+    requires derived { AreDerivedOf records.old.contents derived }
     requires operation { operation_of what.now ≡ Some key.now }
-    ensures ok { OnOk result (NoneRefuses (MayBeDone shown.old.contents at what.now)) }
-    ensures refused { IfErr result (λ r. (r ≡ Refusal.Memory) ⊎ IsLeastRefusal (MayBeDone shown.old.contents at what.now) r) }
-    ensures contents { shown.new.contents ≡ shown.old.contents }
-    ensures fewest { shown.old.looks ≤ shown.new.looks }
-    ensures most { shown.new.looks ≤ shown.old.looks + 1 }
+    ensures ok { OnOk result (NoneRefuses (MayBeDone records.old.contents at what.now)) }
+    ensures refused { IfErr result (λ r. (r ≡ Refusal.Memory) ⊎ IsLeastRefusal (MayBeDone records.old.contents at what.now) r) }
+    ensures contents { records.new.contents ≡ records.old.contents }
+    ensures fewest { records.old.looks ≤ records.new.looks }
+    ensures most { records.new.looks ≤ records.old.looks + 1 }
 {
-    let place = shown
+    let place = records
         .uncounted()
         .operation_place(key)
         .ok_or(Refusal::UnknownOperation)?;
-    let seen = shown.see(place);
+    let seen = records.see(place);
     let outline = Outline::of(seen.uncounted, derived);
     let reported = outline.reported(seen.key, seen.operation, place);
     check_reported(alloc, &outline, &reported, what, at)
@@ -225,23 +225,23 @@ fn check_unseen(alloc: Global, outline: &Outline<'_>, what: &What) -> Result<(),
 /// is found to decide it. It takes a look at the operation of which it reports, or that it commands, and at no other.
 pub fn check_request(
     alloc: Global,
-    shown: &mut CountedRecords,
+    records: &mut CountedRecords,
     derived: DerivedRefs<'_>,
     what: &What,
     at: Moment,
 ) -> Result<(), Refusal>
-    requires derived { AreDerivedOf shown.old.contents derived }
+    requires derived { AreDerivedOf records.old.contents derived }
     requires needs { NeedsPlan what.now }
     requires stays { ¬ Extends what.now }
-    ensures ok { OnOk result (NoneRefuses (MayBeDone shown.old.contents at what.now)) }
-    ensures refused { IfErr result (λ r. (r ≡ Refusal.Memory) ⊎ IsLeastRefusal (MayBeDone shown.old.contents at what.now) r) }
-    ensures contents { shown.new.contents ≡ shown.old.contents }
-    ensures fewest { shown.old.looks ≤ shown.new.looks }
-    ensures most { shown.new.looks ≤ shown.old.looks + 1 }
+    ensures ok { OnOk result (NoneRefuses (MayBeDone records.old.contents at what.now)) }
+    ensures refused { IfErr result (λ r. (r ≡ Refusal.Memory) ⊎ IsLeastRefusal (MayBeDone records.old.contents at what.now) r) }
+    ensures contents { records.new.contents ≡ records.old.contents }
+    ensures fewest { records.old.looks ≤ records.new.looks }
+    ensures most { records.new.looks ≤ records.old.looks + 1 }
 {
     match what.operation() {
-        Some(key) => check_operation(alloc, shown, derived, &key, what, at),
-        None => check_unseen(alloc, &Outline::of(shown.uncounted(), derived), what),
+        Some(key) => check_operation(alloc, records, derived, &key, what, at),
+        None => check_unseen(alloc, &Outline::of(records.uncounted(), derived), what),
     }
 }
 

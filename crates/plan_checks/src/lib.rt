@@ -11,7 +11,7 @@ mod known;
 mod reach;
 mod under_way;
 
-pub use additions::check_shown;
+pub use additions::check_records;
 pub use checks::{check_load, check_request};
 pub use derived_figures::{
     Choice, CountedRecords, Figures, OperationSummary, Outline, RecordCopy, SoundContents,
@@ -19,5 +19,5 @@ pub use derived_figures::{
     is_one_of, mark_all, relist_all, retake, satisfy, set_held, set_nop, set_statuses, unsatisfy,
     update_standings, update_statuses,
 };
-pub use reach::reached_keys;
+pub use reach::{keys_at, reached_keys};
 pub use special_resources::Holdings;

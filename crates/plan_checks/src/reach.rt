@@ -40,8 +40,8 @@ pub fn key_at(uncounted: &UncountedContents<'_>, place: usize) -> OpKey
     *uncounted.operation_key(place)
 }
 
-// The keys of the operations at these indices.
-fn keys_at(
+/// The keys of the operations at these indices. It takes no look at a record.
+pub fn keys_at(
     alloc: Global,
     uncounted: &UncountedContents<'_>,
     places: &[usize],

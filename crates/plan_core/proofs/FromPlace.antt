@@ -13,7 +13,7 @@ use Rattle.plan_records.specs.plan_drafts.proofs.Lists.{contains_none}
 use Rattle.plan_model.specs.special_resources.proofs.Splits.{none_in_order}
 use Rattle.plan_core.proofs.OpViews.{size}
 use Rattle.plan_opening.specs.plan_rows.proofs.SideBySide.{left_from, length_viewed}
-use Rattle.plan_opening.specs.plan_rows.specs.Shown.{IsShown, IsShownIfAny, known_of}
+use Rattle.plan_opening.specs.plan_rows.specs.Sources.{IsSource, IsSourceIfAny, known_of}
 use Rattle.plan_core.specs.Views.{AreOccViews, AreOpViews, occ_view_of, occ_views, op_view_of, op_views, views_from}
 use Rattle.plan_opening.specs.plan_rows.specs.declared.row_sources.RowSource.{RowSource}
 
@@ -48,12 +48,12 @@ pub none_known : {V : Type 0} (answer : Option V) → answer ≡ None → (IsKno
 none_known answer none IsKnown P is unknown = none_told answer none (λ known. unknown (subst IsKnown is known))
 
 -- as many views as rows
-module _ (s : RowSource) (shown : IsShown s) where
+module _ (s : RowSource) (source : IsSource s) where
   pub length_ops : length (op_views s) ≡ length (entries s.contents.now.operations)
-  length_ops = length_viewed (op_view_of s.contents.now) (entries s.contents.now.operations) (known_of s) (size s shown)
+  length_ops = length_viewed (op_view_of s.contents.now) (entries s.contents.now.operations) (known_of s) (size s source)
 
   pub length_occs : length (occ_views s) ≡ length (entries s.contents.now.occurrences)
-  length_occs = length_viewed occ_view_of (entries s.contents.now.occurrences) s.tallies.now shown.tallies.size
+  length_occs = length_viewed occ_view_of (entries s.contents.now.occurrences) s.tallies.now source.tallies.size
 
 -- the one at the index, and those from the next one on
 pub one_left : {X : Type 0} (xs : List X) (i : ℕ) (x : X) → slice_get xs i ≡ Some x → drop i xs ≡ x ∷ drop (i + 1) xs
@@ -64,24 +64,24 @@ fewer e = let n = ap length e in omega (arith, n)
 
 -- ---- views of any kind
 
--- what is shown, if a plan is loaded, is of these contents
-pub record IsOf (P : Contents) (shown : Option RowSource) : Type 0 where
-  pub none : IsNone shown → P ≡ nothing
-  pub contents : IfSome shown (λ s. s.contents.now ≡ P)
-  pub is_shown : IfSome shown IsShown
+-- a source, if a plan is loaded, is of these contents
+pub record IsOf (P : Contents) (source : Option RowSource) : Type 0 where
+  pub none : IsNone source → P ≡ nothing
+  pub contents : IfSome source (λ s. s.contents.now ≡ P)
+  pub is_source : IfSome source IsSource
 
-pub shown_if_any : (P : Contents) (shown : Option RowSource) → IsOf P shown → IsShownIfAny shown
-shown_if_any P None of = tt
-shown_if_any P (Some s) of = of.is_shown
+pub is_source_if_any : (P : Contents) (source : Option RowSource) → IsOf P source → IsSourceIfAny source
+is_source_if_any P None of = tt
+is_source_if_any P (Some s) of = of.is_source
 
 module _ {V : Type 0} (views : RowSource → List V) where
   -- from the first index on: all of them
-  pub all_from : (Are : Contents → List V → Type 0) → Are nothing [] → ((s : RowSource) → IsShown s → Are s.contents.now (views s))
-      → (P : Contents) (shown : Option RowSource) → IsOf P shown → {listed : List V} → listed ≡ views_from views shown 0 → Are P listed
+  pub all_from : (Are : Contents → List V → Type 0) → Are nothing [] → ((s : RowSource) → IsSource s → Are s.contents.now (views s))
+      → (P : Contents) (source : Option RowSource) → IsOf P source → {listed : List V} → listed ≡ views_from views source 0 → Are P listed
   all_from Are none some P None of all = subst (Are P) (sym all) (subst (λ Q. Are Q []) (sym (of.none refl)) none)
-  all_from Are none some P (Some s) of all = subst (Are P) (sym all) (subst (λ Q. Are Q (views s)) of.contents (some s of.is_shown))
+  all_from Are none some P (Some s) of all = subst (Are P) (sym all) (subst (λ Q. Are Q (views s)) of.contents (some s of.is_source))
 
-  module _ {left : List V} {shown : Option RowSource} (i : ℕ) {s : RowSource} (is : views_from views shown i ≡ left) (was : shown ≡ Some s) where
+  module _ {left : List V} {source : Option RowSource} (i : ℕ) {s : RowSource} (is : views_from views source i ≡ left) (was : source ≡ Some s) where
     here : drop i (views s) ≡ left
     here = sym (ap (λ l. views_from views l i) was) ∙ is
 
@@ -90,5 +90,5 @@ module _ {V : Type 0} (views : RowSource → List V) where
     none_from past = sym here ∙ drop_all i (views s) past
 
     -- before it one, and those from the next index on
-    pub rest_from : (v : V) → slice_get (views s) i ≡ Some v → left ≡ v ∷ views_from views shown (i + 1)
+    pub rest_from : (v : V) → slice_get (views s) i ≡ Some v → left ≡ v ∷ views_from views source (i + 1)
     rest_from v at = sym here ∙ one_left (views s) i v at ∙ ap (λ l. v ∷ views_from views l (i + 1)) (sym was)

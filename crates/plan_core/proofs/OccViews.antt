@@ -1,4 +1,4 @@
--- The views of what is shown are those of the plan's occurrences.
+-- The views of a source are those of the plan's occurrences.
 use Rattle.std.proofs.Common.{◌≡◌, ◌↔◌, refl, sym, ap, subst, ◌∙◌, arith, ℕ, true, List, map, Contains, slice_get, Some}
 use Rattle.std.proofs.lemmas.Option.{slice_get_within, same_Some}
 use Rattle.std.specs.FinMap.{contains_key, entries, get}
@@ -18,7 +18,7 @@ use Rattle.plan_opening.specs.plan_status.specs.Standings.{IsTally}
 use Rattle.status_rules.proofs.CountsTable.{first_by_table}
 use Rattle.plan_records.specs.plan_drafts.proofs.EntryRows.{among_keys, has_key, row_in}
 use Rattle.plan_opening.specs.plan_rows.proofs.SideBySide.{from_viewed, keys_viewed, viewed_at}
-use Rattle.plan_opening.specs.plan_rows.specs.Shown.{IsShown}
+use Rattle.plan_opening.specs.plan_rows.specs.Sources.{IsSource}
 use Rattle.plan_core.specs.Views.{AreOccViews, IsOccView, occ_view_of, occ_views}
 use Rattle.plan_opening.specs.plan_rows.specs.declared.row_sources.RowSource.{RowSource}
 use Rattle.plan_core.specs.declared.views.OccView.{OccView}
@@ -30,7 +30,7 @@ use Rattle.status_rules.specs.declared.OccStatus.{OccStatus}
 abbrev pub FollowsFrom : Counts → OccStatus → Type 0
 FollowsFrom n t = (Q : Contents) (c : OccKey) → IsTally Q c n → HasOccurrenceStatus Q c t
 
-module _ (s : RowSource) (shown : IsShown s) where
+module _ (s : RowSource) (source : IsSource s) where
   abbrev P : Contents
   P = s.contents.now
 
@@ -52,7 +52,7 @@ module _ (s : RowSource) (shown : IsShown s) where
 
   is_occ_view : (i : ℕ) (c : OccKey) (x : Occurrence) (n : Counts) → slice_get rows i ≡ Some (c, x) → slice_get tallies i ≡ Some n → IsOccView P (seen c x n)
   is_occ_view i c x n row at =
-      let tally = shown.tallies.each i c x n row at in
+      let tally = source.tallies.each i c x n row at in
       record {
         is_in_plan = row_in_plan i c x row;
         status = by_numbers c n tally;
@@ -64,12 +64,12 @@ module _ (s : RowSource) (shown : IsShown s) where
     -- the view at an index, with the status that follows
     pub occ_view_at : slice_get rows i ≡ Some (c, x) → slice_get tallies i ≡ Some n → FollowsFrom n t → slice_get (occ_views s) i ≡ Some (record (seen c x n) { status = t })
     occ_view_at row at told =
-        let tally = shown.tallies.each i c x n row at in
+        let tally = source.tallies.each i c x n row at in
         let status = one_occurrence_status P c (occurrence_by n) t (by_numbers c n tally) (told P c tally) in
         viewed_at occ_view_of rows tallies i (c, x) n row at ∙ (λ j. Some (record (seen c x n) { status = status j }))
 
   occ_keys : map (λ v. v.key) (occ_views s) ≡ keys_of rows
-  occ_keys = keys_viewed occ_view_of (λ v. v.key) (λ p. refl) rows tallies shown.tallies.size
+  occ_keys = keys_viewed occ_view_of (λ v. v.key) (λ p. refl) rows tallies source.tallies.size
 
   in_plan : (c : OccKey) → Contains (keys_of rows) c → contains_key P.occurrences c ≡ true
   in_plan c has = let there = has_key occurrence_cmp_total occurrence_cmp-IsAntisymmetric P.occurrences c has in some_is (get P.occurrences c) there.0 there.1
@@ -82,7 +82,7 @@ module _ (s : RowSource) (shown : IsShown s) where
   }
 
   tally_at : (i : ℕ) (c : OccKey) (x : Occurrence) → slice_get rows i ≡ Some (c, x) → (n : Counts) × (slice_get tallies i ≡ Some n)
-  tally_at i c x row = row_at tallies i (let lt = slice_get_within rows i (c, x) row in omega (arith, lt, shown.tallies.size))
+  tally_at i c x row = row_at tallies i (let lt = slice_get_within rows i (c, x) row in omega (arith, lt, source.tallies.size))
 
   -- the view at the index of a row
   pub occ_view_is : (i : ℕ) (c : OccKey) (x : Occurrence) (v : OccView) → slice_get rows i ≡ Some (c, x) → slice_get (occ_views s) i ≡ Some v → (v.key ≡ c) × IsOccView P v

@@ -1,4 +1,4 @@
--- The views of what is shown are those of the plan's operations.
+-- The views of a source are those of the plan's operations.
 use Rattle.std.proofs.Common.{◌≡◌, ◌↔◌, refl, sym, ap, subst, ◌∙◌, arith, ℕ, ℤ, length, List, map, Contains, slice_get, Some}
 use Rattle.std.proofs.lemmas.Option.{slice_get_within, same_Some}
 use Rattle.std.specs.FinMap.{entries, get}
@@ -16,12 +16,12 @@ use Rattle.plan_opening.specs.plan_status.specs.declared.standings.Standing.{Sta
 use Rattle.status_rules.specs.declared.Status.{Status}
 use Rattle.plan_records.specs.plan_drafts.proofs.EntryRows.{among_keys, has_key, row_in}
 use Rattle.plan_opening.specs.plan_rows.proofs.SideBySide.{from_viewed, from_zipped, keys_viewed, length_zipped, viewed_at, zipped_at}
-use Rattle.plan_opening.specs.plan_rows.specs.Shown.{IsShown, Known, known_of}
+use Rattle.plan_opening.specs.plan_rows.specs.Sources.{IsSource, Known, known_of}
 use Rattle.plan_core.specs.Views.{AreOpViews, IsOpView, op_view_of, op_views, priority_of}
 use Rattle.plan_opening.specs.plan_rows.specs.declared.row_sources.RowSource.{RowSource}
 use Rattle.plan_core.specs.declared.views.OpView.{OpView}
 
-module _ (s : RowSource) (shown : IsShown s) where
+module _ (s : RowSource) (source : IsSource s) where
   abbrev P : Contents
   P = s.contents.now
 
@@ -32,10 +32,10 @@ module _ (s : RowSource) (shown : IsShown s) where
   others = zip s.statuses.now s.latest.now.starts
 
   size_others : length others ≡ length rows
-  size_others = length_zipped s.statuses.now s.latest.now.starts (shown.latest.size ∙ sym shown.statuses.size) ∙ shown.statuses.size
+  size_others = length_zipped s.statuses.now s.latest.now.starts (source.latest.size ∙ sym source.statuses.size) ∙ source.statuses.size
 
   pub size : length (known_of s) ≡ length rows
-  size = length_zipped s.standings.now others (size_others ∙ sym shown.standings.size) ∙ shown.standings.size
+  size = length_zipped s.standings.now others (size_others ∙ sym source.standings.size) ∙ source.standings.size
 
   -- the view of a row with what is known of it
   abbrev seen : OpKey → Operation → Known → OpView
@@ -46,7 +46,7 @@ module _ (s : RowSource) (shown : IsShown s) where
 
   -- the occurrence of an operation is there
   pub its_occurrence : (o : OpKey) (op : Operation) → get P.operations o ≡ Some op → (c : Occurrence) × (get P.occurrences o.occurrence ≡ Some c)
-  its_occurrence o op is = is_found (get P.occurrences o.occurrence) (shown.sound.valid.occurrences.each_operation o op is).1
+  its_occurrence o op is = is_found (get P.occurrences o.occurrence) (source.sound.valid.occurrences.each_operation o op is).1
 
   is_op_view : (i : ℕ) (o : OpKey) (op : Operation) (k : Known) → slice_get rows i ≡ Some (o, op) → slice_get (known_of s) i ≡ Some k → IsOpView P (seen o op k)
   is_op_view i o op k row at =
@@ -61,9 +61,9 @@ module _ (s : RowSource) (shown : IsShown s) where
         moments = (refl, refl);
         marked = (refl, refl, refl);
         priority = (c.0, c.1, ap priority_of c.1);
-        status = shown.statuses.each i o op k.1.0 row other.0;
-        latest = shown.latest.each i o op k.1.1 row other.1;
-        waiting = (shown.standings.each i o op k.0 row both.0).waiting;
+        status = source.statuses.each i o op k.1.0 row other.0;
+        latest = source.latest.each i o op k.1.1 row other.1;
+        waiting = (source.standings.each i o op k.0 row both.0).waiting;
       }
 
   module _ (i : ℕ) (o : OpKey) (op : Operation) (x : Standing) (t : Status) (v : ℤ) (c : Occurrence) where

@@ -17,7 +17,7 @@ use Rattle.ready_list.specs.declared.entry.ReadyEntry.{ReadyEntry}
 use Rattle.plan_opening.specs.start_choice.specs.Choices.{AreReadyEntries}
 use Rattle.plan_records.specs.plan_drafts.proofs.EntryRows.{entry_of}
 use Rattle.plan_core.proofs.OpViews.{are_op_views, op_view_is, op_view_there}
-use Rattle.plan_opening.specs.plan_rows.specs.Shown.{IsShown}
+use Rattle.plan_opening.specs.plan_rows.specs.Sources.{IsSource}
 use Rattle.plan_core.specs.Views.{AreReadyViews, IsOpView, is_at_workstation, is_on, op_views, ready_views, view_at}
 use Rattle.plan_opening.specs.plan_rows.specs.declared.row_sources.RowSource.{RowSource}
 use Rattle.plan_core.specs.declared.views.OpView.{OpView}
@@ -34,23 +34,23 @@ at-keyed [] i v e = cc
 at-keyed (w ∷ vs) zero v e = let same : w ≡ v = cc in λ j. Some ((same j).key, same j)
 at-keyed (w ∷ vs) (suc i) v e = at-keyed vs i v e
 
-module _ (s : RowSource) (shown : IsShown s) where
+module _ (s : RowSource) (source : IsSource s) where
   abbrev P : Contents
   P = s.contents.now
 
   -- the view of a row's operation
   pub view_is : (i : ℕ) (o : OpKey) (op : Operation) (v : OpView) → slice_get (entries P.operations) i ≡ Some (o, op) → slice_get (op_views s) i ≡ Some v → view_at s o ≡ Some v
   view_is i o op v row at =
-      let sorted = subst (IsStrictlySortedBy operation_cmp) (sym (keys-keyed (op_views s))) (are_op_views s shown).in_order in
-      let key = (op_view_is s shown i o op v row at).0 in
+      let sorted = subst (IsStrictlySortedBy operation_cmp) (sym (keys-keyed (op_views s))) (are_op_views s source).in_order in
+      let key = (op_view_is s source i o op v row at).0 in
       get_at operation_cmp operation_cmp_total operation_cmp-IsAntisymmetric (map (λ (v : OpView). (v.key, v)) (op_views s)) sorted i o v (at-keyed (op_views s) i v at ∙ (λ j. Some (key j, v)))
 
   -- an operation of the plan has a view
   pub view_there : (o : OpKey) (op : Operation) → get P.operations o ≡ Some op → (v : OpView) × (view_at s o ≡ Some v) × (v.key ≡ o) × IsOpView P v
   view_there o op is =
       let i = entry_of operation_cmp_total operation_cmp-IsAntisymmetric P.operations o op is in
-      let v = op_view_there s shown i.0 o op i.1 in
-      let told = op_view_is s shown i.0 o op v.0 i.1 v.1 in
+      let v = op_view_there s source i.0 o op i.1 in
+      let told = op_view_is s source i.0 o op v.0 i.1 v.1 in
       (v.0, view_is i.0 o op v.0 i.1 v.1, told.0, told.1)
 
   -- these entries are of operations of the plan, each with its workstation

@@ -26,11 +26,11 @@ pub prepared_in : (P : Plan) (q : Request) (m : ℕ) (x : AcceptedOutcome) (look
 prepared_in P q m x looks of are = record { by = record { step = of.step; changes = of.changes; fits = of.fits }; looks = are }
 
 -- what a plan that was made anew is led to, put together
-pub prepared_rebuild : (P : Plan) (q : Request) (m : ℕ) (a : Rebuild) (x : Rebuilt) → a.rebuilt ≡ Ok x → IsRebuildOf P q m a → (looks work : ℕ) → AreRebuildLooks P.contents q.what a looks → looks ≤ work → work ≤ looks + a.shown.looks → (loaded : Contents)
-    → loaded ≡ a.shown.contents → IsPreparedIn P q (prepared_by m (record { next = Whole loaded; named = x.rebuilt_parts.named; changes = x.changes }) work)
+pub prepared_rebuild : (P : Plan) (q : Request) (m : ℕ) (a : Rebuild) (x : Rebuilt) → a.rebuilt ≡ Ok x → IsRebuildOf P q m a → (looks work : ℕ) → AreRebuildLooks P.contents q.what a looks → looks ≤ work → work ≤ looks + a.records.looks → (loaded : Contents)
+    → loaded ≡ a.records.contents → IsPreparedIn P q (prepared_by m (record { next = Whole loaded; named = x.rebuilt_parts.named; changes = x.changes }) work)
 prepared_rebuild P q m a x is of looks work are fewest most loaded same =
-    let by = subst (λ r. IfOk r (IsRebuiltBy P q m a.shown.contents)) is of.rebuilt in
-    let looked = subst (λ r. IfOk r (λ (x : Rebuilt). AreAllowed P.contents q.what a.shown.contents (looks + a.shown.looks) × CoverRows P.contents x.changes.rows.items looks)) is are in
+    let by = subst (λ r. IfOk r (IsRebuiltBy P q m a.records.contents)) is of.rebuilt in
+    let looked = subst (λ r. IfOk r (λ (x : Rebuilt). AreAllowed P.contents q.what a.records.contents (looks + a.records.looks) × CoverRows P.contents x.changes.rows.items looks)) is are in
     let stepped = subst (λ (R : Contents). IsRebuiltBy P q m R x) (sym same) by in
     record {
       by = record { step = stepped.step; changes = stepped.changes; fits = tt };
@@ -47,8 +47,8 @@ seen_prepared clock x y s is seen q r of = subst (λ (t : PlanState). IfOk r (Is
 -- what is put in a plan's place is what was prepared for it
 pub is_after : (clock : ℕ) (x y : Option Contents) (s : PlanState) (inside p : PreparedState) (os : List OpKey) → record { plan = plan_held clock x } ≡ s → inside ≡ p → os ≡ inside.named
     → y ≡ Some (contents_next (plan_held clock x).contents inside.next os) → plan_held inside.clock y ≡ plan_after s p
-is_after clock x y s inside p os seen shown named put =
+is_after clock x y s inside p os seen same named put =
     ap (plan_held inside.clock) put
     ∙ ap (λ ns. plan_held inside.clock (Some (contents_next (plan_held clock x).contents inside.next ns))) named
     ∙ ap (λ (t : PlanState). plan_held inside.clock (Some (contents_next t.plan.contents inside.next inside.named))) seen
-    ∙ ap (plan_after s) shown
+    ∙ ap (plan_after s) same

@@ -19,7 +19,7 @@ use Rattle.plan_records.specs.Rows.{IsCount, IsWaitingFor}
 use Rattle.status_rules.specs.Table.{occurrence_by}
 use Rattle.status_rules.specs.declared.Counts.{Counts}
 use Rattle.status_rules.specs.declared.Status.TheVariants.{Complete}
-use Rattle.plan_opening.specs.plan_rows.specs.Shown.{IsShown, Known, known_of}
+use Rattle.plan_opening.specs.plan_rows.specs.Sources.{IsSource, Known, known_of}
 use Rattle.plan_opening.specs.plan_rows.specs.declared.row_sources.RowSource.{RowSource}
 use Rattle.plan_core.specs.declared.views.OccView.{OccView}
 use Rattle.plan_core.specs.declared.views.OpView.{OpView}
@@ -106,7 +106,7 @@ occ_view_of x = record {
   complete = x.1.complete;
 }
 
--- the views of all operations of the plan that is shown, in the order of their rows
+-- the views of all operations of a source, in the order of their rows
 abbrev pub op_views : RowSource → List OpView
 op_views s = map (op_view_of s.contents.now) (zip (entries s.contents.now.operations) (known_of s))
 
@@ -114,12 +114,12 @@ op_views s = map (op_view_of s.contents.now) (zip (entries s.contents.now.operat
 abbrev pub occ_views : RowSource → List OccView
 occ_views s = map occ_view_of (zip (entries s.contents.now.occurrences) s.tallies.now)
 
--- the views of a plan, of operations or of occurrences, from an index on; none where none is shown
+-- the views of a source, of operations or of occurrences, from an index on; none where there is none
 abbrev pub views_from : {V : Type 0} → (RowSource → List V) → Option RowSource → ℕ → List V
 views_from views None place = []
 views_from views (Some s) place = drop place (views s)
 
--- the view of an operation, if the plan that is shown has it
+-- the view of an operation, if the source has it
 abbrev pub view_at : RowSource → OpKey → Option OpView
 view_at s o = get {R = operation_cmp} (from_entries (map (λ v. (v.key, v)) (op_views s))) o
 
@@ -127,6 +127,6 @@ view_at s o = get {R = operation_cmp} (from_entries (map (λ v. (v.key, v)) (op_
 abbrev pub ready_views : RowSource → List ReadyEntry → List OpView
 ready_views s es = filter_map (λ e. view_at s e.key.op) es
 
--- a plan is shown, and has the operations of these entries
+-- it is a source, and has the operations of these entries
 abbrev pub AreEntriesOf : RowSource → List ReadyEntry → Type 0
-AreEntriesOf s es = IsShown s × All (λ e. IsInPlan s.contents.now e.key.op) es
+AreEntriesOf s es = IsSource s × All (λ e. IsInPlan s.contents.now e.key.op) es

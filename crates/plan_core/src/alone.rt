@@ -37,41 +37,41 @@ fn check(at: i64, draft: &Option<PlanDraft>) -> Result<Moment, Refusal>
     Ok(moment)
 }
 
-// What is named at a moment in what is shown, where this was worked out of it; nothing is marked. The error is always `Memory`.
+// What is named at a moment in the plan of these records, where this was worked out of it; nothing is marked. The error is always `Memory`.
 fn named_by(
     alloc: Global,
-    shown: CountedRecords,
+    records: CountedRecords,
     derived_afresh: DerivedAfresh,
     at: Moment,
 ) -> (CountedRecords, Result<Vec<OpKey>, Refusal>)
-    requires { IsDerivedAfresh shown.contents derived_afresh }
-    ensures chosen { IfOk result.1 (λ keys. IsChosen shown.contents at keys.items) }
+    requires { IsDerivedAfresh records.contents derived_afresh }
+    ensures chosen { IfOk result.1 (λ keys. IsChosen records.contents at keys.items) }
     ensures refused { IfErr result.1 (λ r. r ≡ Refusal.Memory) }
 {
     let figures = derived_afresh.figures;
     let (given, holdings) = (figures.given, figures.holdings);
-    let (shown, choice) = chosen_with(alloc, shown, &figures.ready, at, given, holdings);
+    let (records, choice) = chosen_with(alloc, records, &figures.ready, at, given, holdings);
     match choice {
-        Ok(choice) => (shown, Ok(choice.named)),
-        Err(refusal) => (shown, Err(refusal)),
+        Ok(choice) => (records, Ok(choice.named)),
+        Err(refusal) => (records, Err(refusal)),
     }
 }
 
-// What is named at a moment in what is shown, with this graph. The error is always `Memory`.
+// What is named at a moment in the plan of these records, with this graph. The error is always `Memory`.
 fn named_in(
     alloc: Global,
-    shown: CountedRecords,
+    records: CountedRecords,
     graph: &Graph,
     at: Moment,
 ) -> (CountedRecords, Result<Vec<OpKey>, Refusal>)
-    requires { IsGraphFor shown.contents graph.now }
-    ensures chosen { IfOk result.1 (λ keys. IsChosen shown.contents at keys.items) }
+    requires { IsGraphFor records.contents graph.now }
+    ensures chosen { IfOk result.1 (λ keys. IsChosen records.contents at keys.items) }
     ensures refused { IfErr result.1 (λ r. r ≡ Refusal.Memory) }
 {
-    let mut shown = shown;
-    match derived_afresh(alloc, &mut shown, graph) {
-        Ok(derived_afresh) => named_by(alloc, shown, derived_afresh, at),
-        Err(refusal) => (shown, Err(refusal)),
+    let mut records = records;
+    match derived_afresh(alloc, &mut records, graph) {
+        Ok(derived_afresh) => named_by(alloc, records, derived_afresh, at),
+        Err(refusal) => (records, Err(refusal)),
     }
 }
 
@@ -87,9 +87,9 @@ fn named_at(
     ensures refused { IfErr result (λ r. r ≡ Refusal.Memory) }
 {
     let permit = granted();
-    let shown = CountedRecords::of(contents, &permit);
-    let (shown, named) = named_in(alloc, shown, graph, at);
-    let _ = shown.into_contents(&permit);
+    let records = CountedRecords::of(contents, &permit);
+    let (records, named) = named_in(alloc, records, graph, at);
+    let _ = records.into_contents(&permit);
     named
 }
 

@@ -25,9 +25,9 @@ fn loaded_again(alloc: Global, loaded: &LoadedPlan) -> Result<LoadedPlan, Refusa
     let graph = loaded.graph().try_clone()?;
     let contents = contents_again(alloc, loaded.contents())?;
     let permit = granted();
-    let mut shown = CountedRecords::of(contents, &permit);
-    let kept = derived_afresh(alloc, &mut shown, &graph);
-    let (contents, _looks) = shown.into_contents(&permit);
+    let mut records = CountedRecords::of(contents, &permit);
+    let kept = derived_afresh(alloc, &mut records, &graph);
+    let (contents, _looks) = records.into_contents(&permit);
     let kept = kept?;
     Ok(LoadedPlan::of(contents, graph, kept.latest, kept.figures))
 }

@@ -32,8 +32,8 @@ fn prepared_rebuild(
     ensures prepared { (P : Plan) (request : Request) → IsRebuildOf P request at rebuild → AreRebuildLooks P.contents request.what rebuild looks → IfOk result (IsPreparedIn P request) }
     ensures refused { IfErr result (λ r. (P : Plan) (request : Request) → IsRebuildOf P request at rebuild → (r ≡ Refusal.Memory) ⊎ Step P request (refused r) P) }
 {
-    let Rebuild { shown, rebuilt } = rebuild;
-    let (contents, more) = shown.into_contents(permit);
+    let Rebuild { records, rebuilt } = rebuild;
+    let (contents, more) = records.into_contents(permit);
     let Rebuilt {
         rebuilt_parts,
         changes,
@@ -97,9 +97,8 @@ fn seeking(contents: SoundContents, what: &What) -> SoundContents
     }
 }
 
-// What a request leads to in a plan that is loaded, which comes back as it was. All that works it out is shown the records one by
-// one, those of a plan that is made anew too; it has no permit to take apart what shows them, and can't let go of it: so each look
-// counts.
+// What a request leads to in a plan that is loaded, which comes back as it was. All that works it out looks at the records one by
+// one, those of a plan that is made anew too; it has no permit to take them apart, and can't let go of them: so each look counts.
 fn prepare_loaded(
     alloc: Global,
     loaded: LoadedPlan,
@@ -120,10 +119,10 @@ fn prepare_loaded(
         figures,
     } = loaded.into_parts();
     let permit = granted();
-    let shown = CountedRecords::of(seeking(contents, &request.what), &permit);
+    let records = CountedRecords::of(seeking(contents, &request.what), &permit);
     let asked = DatedRequest { clock, request, at };
-    let (shown, figures, outcome) = outcome_of(alloc, shown, &graph, &latest, figures, &asked);
-    let (contents, looks) = shown.into_contents(&permit);
+    let (records, figures, outcome) = outcome_of(alloc, records, &graph, &latest, figures, &asked);
+    let (contents, looks) = records.into_contents(&permit);
     let plan = LoadedPlan::of(contents, graph, latest, figures);
     match outcome {
         Ok(outcome) => (plan, prepared_by(at, outcome, looks, &permit)),

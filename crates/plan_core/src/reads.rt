@@ -2,7 +2,7 @@
 ghost use Rattle.std.specs.Prelude.{◌≡◌, ◌↔◌, true, IfSome, IsNone, IsSome};
 ghost use Rattle.std.specs.FinMap.{contains_key};
 ghost use Rattle.plan_model.specs.Contents.{nothing, IsInPlan};
-ghost use Rattle.plan_opening.specs.plan_rows.specs.Shown.{plan_shown, IsShown};
+ghost use Rattle.plan_opening.specs.plan_rows.specs.Sources.{plan_if_any, IsSource};
 ghost use Rattle.plan_core.specs.Views.{AreReadyViews, IsOpView, IsOccView, AreOpViews, AreOccViews};
 
 use super::lists::{Occs, Ops};
@@ -28,12 +28,12 @@ impl Plan {
         self.loaded.as_ref()
     }
 
-    // What is shown of the plan, if one is loaded.
-    pub(crate) fn shown(&self) -> Option<RowSource<'_>>
+    // The source of the plan, if one is loaded.
+    pub(crate) fn source(&self) -> Option<RowSource<'_>>
         ensures none { IsNone result → self.now.plan.contents ≡ nothing }
         ensures contents { IfSome result (λ s. s.contents.now ≡ self.now.plan.contents) }
-        ensures plan { plan_shown self.now.plan.clock result ≡ self.now.plan }
-        ensures shown { IfSome result IsShown }
+        ensures plan { plan_if_any self.now.plan.clock result ≡ self.now.plan }
+        ensures source { IfSome result IsSource }
     {
         match &self.loaded {
             Some(loaded) => Some(RowSource::of(loaded)),
@@ -46,9 +46,9 @@ impl Plan {
         ensures some { IsSome result ↔ IsInPlan self.now.plan.contents key.now }
         ensures view { IfSome result (λ v. (v.key ≡ key.now) × IsOpView self.now.plan.contents v) }
     {
-        let shown = self.shown()?;
-        let place = shown.contents.operation_place(key)?;
-        Some(op_view(shown, place))
+        let source = self.source()?;
+        let place = source.contents.operation_place(key)?;
+        Some(op_view(source, place))
     }
 
     /// An occurrence of the plan, if it is there.
@@ -56,23 +56,23 @@ impl Plan {
         ensures some { IsSome result ↔ (contains_key self.now.plan.contents.occurrences key.now ≡ true) }
         ensures view { IfSome result (λ v. (v.key ≡ key.now) × IsOccView self.now.plan.contents v) }
     {
-        let shown = self.shown()?;
-        let place = shown.contents.occurrence_place(key)?;
-        Some(occ_view(shown, place))
+        let source = self.source()?;
+        let place = source.contents.occurrence_place(key)?;
+        Some(occ_view(source, place))
     }
 
     /// All operations of the plan, in key order.
     pub fn ops(&self) -> Ops<'_>
         ensures { AreOpViews self.now.plan.contents result }
     {
-        Ops::new(self.shown())
+        Ops::new(self.source())
     }
 
     /// All occurrences of the plan, in key order.
     pub fn occs(&self) -> Occs<'_>
         ensures { AreOccViews self.now.plan.contents result }
     {
-        Occs::new(self.shown())
+        Occs::new(self.source())
     }
 
     /// What is ready on a workstation, in the order of the ready list, held operations too; `None` where the workstation

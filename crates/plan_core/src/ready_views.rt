@@ -12,7 +12,7 @@ use std::marker::Model;
 /// are left.
 #[derive(Drop)]
 pub struct Ready<'a> {
-    shown: RowSource<'a>,
+    source: RowSource<'a>,
     entries: OnWorkstation<'a>,
 }
 
@@ -23,18 +23,18 @@ impl<'a> Model for Ready<'a> {
 
     ghost Value = { List OpView };
 
-    ghost view = { λ a. ready_views a.shown a.entries };
+    ghost view = { λ a. ready_views a.source a.entries };
 
-    ghost invariant = { λ a. AreEntriesOf a.shown a.entries };
+    ghost invariant = { λ a. AreEntriesOf a.source a.entries };
 }
 
 impl<'a> Ready<'a> {
-    /// The operations of these entries, which the plan that is shown has.
-    pub(crate) fn new(shown: RowSource<'a>, entries: OnWorkstation<'a>) -> Ready<'a>
-        requires { AreEntriesOf shown entries }
-        ensures { result ≡ ready_views shown.entry entries.entry }
+    /// The operations of these entries, which the source has.
+    pub(crate) fn new(source: RowSource<'a>, entries: OnWorkstation<'a>) -> Ready<'a>
+        requires { AreEntriesOf source entries }
+        ensures { result ≡ ready_views source.entry entries.entry }
     {
-        Ready { shown, entries }
+        Ready { source, entries }
     }
 }
 
@@ -47,7 +47,7 @@ impl<'a> Iterator for Ready<'a> {
 
     fn next(&mut self) -> Option<OpView> {
         let entry = self.entries.next()?;
-        let row = self.shown.contents.known_operation_place(&entry.key.op);
-        Some(op_view(self.shown, row))
+        let row = self.source.contents.known_operation_place(&entry.key.op);
+        Some(op_view(self.source, row))
     }
 }

@@ -1,7 +1,7 @@
 // What is read off the plan for one operation or one occurrence.
 ghost use Rattle.std.specs.Prelude.{◌≡◌, ◌<◌, Some, length, slice_get};
 ghost use Rattle.std.specs.FinMap.{entries};
-ghost use Rattle.plan_opening.specs.plan_rows.specs.Shown.{IsShown};
+ghost use Rattle.plan_opening.specs.plan_rows.specs.Sources.{IsSource};
 ghost use Rattle.plan_core.specs.Views.{op_views, occ_views};
 
 use plan_basics::{Moment, OccKey, OpKey, WsName};
@@ -52,13 +52,13 @@ pub struct OccView {
 }
 
 /// The view of the operation at an index.
-pub(crate) fn op_view(shown: RowSource<'_>, place: usize) -> OpView
-    requires shown { IsShown shown }
-    requires within { place < length (entries shown.contents.now.operations) }
-    ensures { slice_get (op_views shown.entry) place ≡ Some result }
+pub(crate) fn op_view(source: RowSource<'_>, place: usize) -> OpView
+    requires source { IsSource source }
+    requires within { place < length (entries source.contents.now.operations) }
+    ensures { slice_get (op_views source.entry) place ≡ Some result }
 {
-    let (key, operation) = shown.contents.operations()[place];
-    let occurrence = shown.contents.occurrence(&key.occurrence).unwrap();
+    let (key, operation) = source.contents.operations()[place];
+    let occurrence = source.contents.occurrence(&key.occurrence).unwrap();
     OpView {
         key,
         workstation: operation.workstation,
@@ -71,20 +71,20 @@ pub(crate) fn op_view(shown: RowSource<'_>, place: usize) -> OpView
         held: operation.held,
         nop: operation.nop,
         priority: occurrence.priority,
-        status: shown.statuses[place],
-        latest: shown.latest.of(place),
-        waiting: shown.standings[place].waiting,
+        status: source.statuses[place],
+        latest: source.latest.of(place),
+        waiting: source.standings[place].waiting,
     }
 }
 
 /// The view of the occurrence at an index.
-pub(crate) fn occ_view(shown: RowSource<'_>, place: usize) -> OccView
-    requires shown { IsShown shown }
-    requires within { place < length (entries shown.contents.now.occurrences) }
-    ensures { slice_get (occ_views shown.entry) place ≡ Some result }
+pub(crate) fn occ_view(source: RowSource<'_>, place: usize) -> OccView
+    requires source { IsSource source }
+    requires within { place < length (entries source.contents.now.occurrences) }
+    ensures { slice_get (occ_views source.entry) place ≡ Some result }
 {
-    let (key, terms) = shown.contents.occurrences()[place];
-    let counts = shown.tallies[place];
+    let (key, terms) = source.contents.occurrences()[place];
+    let counts = source.tallies[place];
     OccView {
         key,
         priority: terms.priority,

@@ -3,9 +3,8 @@
 use clap::ArgMatches;
 use command_answers::{Ending, Fault, moment_of, plan_of_file};
 use command_words::value_of;
-use journal_commands::replay_file;
 use plan_basics::Watched;
-use request_commands::play_file;
+use request_commands::{play_file, replay_file};
 use std::io::Write;
 use std::rt::HostRuntime;
 

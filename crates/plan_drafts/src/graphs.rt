@@ -1,16 +1,13 @@
 // The graph of what a plan holds: its nodes are the indices of the operations' keys, its edges come from the pairs.
-ghost use Rattle.std.specs.Prelude.{◌≡◌, Some, Contains, slice_get, Decides, IfOk, MatchOption};
+ghost use Rattle.std.specs.Prelude.{◌≡◌, Some, Contains, slice_get, IfOk, MatchOption};
 ghost use Rattle.std.specs.FinSet.{from_list};
 ghost use Rattle.std.specs.List.Sorted.{IsStrictlySortedBy};
 ghost use Rattle.plan_basics.specs.Keys.{operation_cmp};
 ghost use Rattle.plan_model.specs.Contents.{pair_cmp};
 ghost use Rattle.plan_model.specs.Valid.{IsAcyclic};
-ghost use Rattle.plan_drafts.specs.PlanGraphs.{AreAmong, AreAtPlaces, IsGraphOf, JoinOperations};
+ghost use Rattle.plan_drafts.specs.PlanGraphs.{AreAmong, AreAtPlaces, IsGraphOf};
 
-use super::contents::PlanContents;
 use super::hints::Hints;
-use super::in_order::are_pairs_acyclic;
-use super::key_order::keys;
 use plan_basics::OpKey;
 use plan_model::{EdgeFault, Graph};
 use std::alloc::{AllocError, Global};
@@ -108,13 +105,4 @@ pub fn graph_of(
     ensures { IfOk result (λ found. MatchOption found (¬ IsAcyclic (from_list pairs.now)) (λ g. IsGraphOf keys.now (from_list pairs.now) g × IsAcyclic (from_list pairs.now))) }
 {
     graph_among(alloc, keys, pairs)
-}
-
-/// Whether no path of pairs returns to its start.
-pub fn is_acyclic(alloc: Global, contents: &PlanContents) -> Result<bool, AllocError>
-    requires { JoinOperations contents.now.operations contents.now.pairs }
-    ensures { IfOk result (λ told. Decides told (IsAcyclic contents.now.pairs)) }
-{
-    let keys = keys(alloc, contents.operations())?;
-    are_pairs_acyclic(alloc, &keys, contents.pairs())
 }

@@ -17,6 +17,7 @@ ghost use Rattle.plan_basics.specs.Watched.{inner_of, failed_of};
 use csv::{ByteRecord, ErrorKind, Reader, ReaderBuilder};
 pub use lines::{TextRecords, records_of_text};
 use plan_basics::Watched;
+use plan_denotation::{addition_of_items, draft_of_items, extension_of_items};
 use plan_items::{Item, read_item};
 use plan_records::{Addition, Extension, PlanDraft};
 use std::alloc::{AllocError, AllocFailed, Global};
@@ -233,7 +234,7 @@ pub fn read_plan<R: Read>(
     let Some(items) = read_items(alloc, reader)? else {
         return Ok(None);
     };
-    match PlanDraft::of_items(alloc, &items) {
+    match draft_of_items(alloc, &items) {
         Ok(draft) => Ok(draft),
         Err(_) => Err(ImportFault::Memory),
     }
@@ -252,7 +253,7 @@ pub fn read_occurrence<R: Read>(
     let Some(items) = read_items(alloc, reader)? else {
         return Ok(None);
     };
-    match Addition::of_items(alloc, &items) {
+    match addition_of_items(alloc, &items) {
         Ok(addition) => Ok(addition),
         Err(_) => Err(ImportFault::Memory),
     }
@@ -272,7 +273,7 @@ pub fn read_extension<R: Read>(
     let Some(items) = read_items(alloc, reader)? else {
         return Ok(None);
     };
-    match Extension::of_items(alloc, &items) {
+    match extension_of_items(alloc, &items) {
         Ok(extension) => Ok(extension),
         Err(_) => Err(ImportFault::Memory),
     }

@@ -15,8 +15,8 @@ use Rattle.special_resources.specs.declared.Mode.{Mode}
 use Rattle.special_resources.specs.declared.Mode.TheVariants as mode
 use Rattle.status_rules.specs.Table.{marked_status}
 use Rattle.status_rules.specs.declared.Status.TheVariants as status
-use Rattle.plan_model.specs.workstations.specs.Workstations.{HasCapacity, HasRoom, Workstation, capacity_of}
-use Rattle.plan_model.specs.workstations.specs.declared.Capacity.{Capacity}
+use Rattle.plan_records.specs.plan_model.specs.workstations.specs.Workstations.{HasCapacity, HasRoom, Workstation, capacity_of}
+use Rattle.plan_records.specs.plan_model.specs.workstations.specs.declared.Capacity.{Capacity}
 use Rattle.plan_laws.proofs.Entries.{same_operation, told_at, told_each_at, told_entries, told_entry, told_has, told_operations}
 use Rattle.std.proofs.lemmas.Option.{same_Some}
 use Rattle.plan_laws.proofs.Numbers.{told_refusals}
@@ -26,14 +26,14 @@ use Rattle.plan_laws.proofs.Decide.{told_attribute}
 use Rattle.operation_graph.proofs.Telling.{Told, told_alike, told_and, told_if_then, told_none, told_or, told_true}
 use Rattle.plan_records.specs.plan_drafts.proofs.Lists.{pairs_from_differ}
 use Rattle.plan_records.specs.plan_drafts.proofs.Tables.{sorted_apart}
-use Rattle.plan_model.proofs.Entries.{entries_in_order}
-use Rattle.plan_model.proofs.Members.{in_keys}
-use Rattle.plan_model.specs.declared.Stock.{Stock}
-use Rattle.plan_model.specs.Holdings.{Holds, given_out, holds_resource, takes}
-use Rattle.plan_model.specs.Contents.{Contents, HasAttribute, Operation, attribute_at}
-use Rattle.plan_model.specs.Starts.{FitsAt, IsAllowedToStart, MayStart}
-use Rattle.plan_model.specs.Status.{HasStatus, IsReady}
-use Rattle.plan_model.specs.Valid.{IsAcyclic}
+use Rattle.plan_records.specs.plan_model.proofs.Entries.{entries_in_order}
+use Rattle.plan_records.specs.plan_model.proofs.Members.{in_keys}
+use Rattle.plan_records.specs.plan_model.specs.declared.Stock.{Stock}
+use Rattle.plan_records.specs.plan_model.specs.Holdings.{Holds, given_out, holds_resource, takes}
+use Rattle.plan_records.specs.plan_model.specs.Contents.{Contents, HasAttribute, Operation, attribute_at}
+use Rattle.plan_records.specs.plan_model.specs.Starts.{FitsAt, IsAllowedToStart, MayStart}
+use Rattle.plan_records.specs.plan_model.specs.Status.{HasStatus, IsReady}
+use Rattle.plan_records.specs.plan_model.specs.Valid.{IsAcyclic}
 
 pub told_le : (a b : ℕ) → Told (a ≤ b)
 told_le a b = elim (cases_lt b a) [ inl less ↦ inr (λ h. omega (arith, less, h)) | inr le ↦ inl le ]

@@ -4,11 +4,11 @@ use Rattle.std.specs.FinMap.{get, get-empty, contains_key}
 use Rattle.std.specs.Ordering.{eq_by_cmp}
 use Rattle.plan_basics.specs.Keys.{Name, name_cmp, name_cmp-IsAntisymmetric}
 use Rattle.plan_basics.specs.declared.Refusal.TheVariants as refusal
-use Rattle.plan_model.specs.workstations.specs.Workstations.{Workstation, with_intervals}
-use Rattle.plan_model.specs.Contents.{Contents, nothing, with_availability}
-use Rattle.plan_model.specs.Plan.{Plan, IsSoundPlan}
-use Rattle.plan_model.specs.Revise.{get-revise, revise}
-use Rattle.plan_model.specs.declared.Stock.{Stock}
+use Rattle.plan_records.specs.plan_model.specs.workstations.specs.Workstations.{Workstation, with_intervals}
+use Rattle.plan_records.specs.plan_model.specs.Contents.{Contents, nothing, with_availability}
+use Rattle.plan_records.specs.plan_model.specs.Plan.{Plan, IsSoundPlan}
+use Rattle.plan_records.specs.plan_model.specs.Revise.{get-revise, revise}
+use Rattle.plan_records.specs.plan_model.specs.declared.Stock.{Stock}
 use Rattle.plan_records.specs.plan_drafts.proofs.Needed.{mapped}
 use Rattle.plan_records.specs.plan_drafts.proofs.Tables.{is_found}
 use Rattle.plan_records.specs.plan_drafts.specs.declared.RowKey.{RowKey}

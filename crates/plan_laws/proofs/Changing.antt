@@ -18,19 +18,19 @@ use Rattle.plan_basics.specs.declared.keys.OpKey.{OpKey}
 use Rattle.plan_records.specs.plan_drafts.proofs.Tables.{is_found}
 use Rattle.plan_records.specs.plan_drafts.proofs.Needed.{mapped}
 use Rattle.std.proofs.lemmas.Option.{same_Some}
-use Rattle.plan_model.specs.Holdings.{Holds, holds_resource, takes}
-use Rattle.plan_model.specs.Contents.{Contents, Operation, attribute_at, with_availability}
-use Rattle.plan_model.specs.declared.Stock.{Stock}
-use Rattle.plan_model.specs.Revise.{get-revise, len-revise, revise}
-use Rattle.plan_model.specs.Status.{IsSatisfied, NeedsNoReport}
-use Rattle.plan_model.specs.Valid.{IsSound, MayBear}
+use Rattle.plan_records.specs.plan_model.specs.Holdings.{Holds, holds_resource, takes}
+use Rattle.plan_records.specs.plan_model.specs.Contents.{Contents, Operation, attribute_at, with_availability}
+use Rattle.plan_records.specs.plan_model.specs.declared.Stock.{Stock}
+use Rattle.plan_records.specs.plan_model.specs.Revise.{get-revise, len-revise, revise}
+use Rattle.plan_records.specs.plan_model.specs.Status.{IsSatisfied, NeedsNoReport}
+use Rattle.plan_records.specs.plan_model.specs.Valid.{IsSound, MayBear}
 use Rattle.plan_records.specs.plan_drafts.specs.Drafts.{IsDraft}
 use Rattle.plan_records.specs.Laws.{ChangeKeepsSound}
 use Rattle.special_resources.specs.Holders.{HoldNoMoreThan, Usage}
 use Rattle.status_rules.specs.LeastSet.{LeastSet, by_all_before, by_given}
 use Rattle.status_rules.specs.Table.{marked_status}
-use Rattle.plan_model.specs.workstations.proofs.Lookups.{opened_is}
-use Rattle.plan_model.specs.workstations.specs.Workstations.{IsWorkstation, Workstation, with_intervals}
+use Rattle.plan_records.specs.plan_model.specs.workstations.proofs.Lookups.{opened_is}
+use Rattle.plan_records.specs.plan_model.specs.workstations.specs.Workstations.{IsWorkstation, Workstation, with_intervals}
 
 -- ---- a load
 

@@ -4,10 +4,10 @@ use Rattle.std.proofs.lemmas.List.Elements.{filter-append}
 use Rattle.plan_basics.specs.declared.keys.OpKey.{OpKey}
 use Rattle.plan_laws.proofs.Sorted.{sorted_unique}
 use Rattle.plan_laws.specs.Derived.{OneReadyList}
-use Rattle.plan_model.specs.Ready.{IsOnAutomatic, OneChoice, named}
-use Rattle.plan_model.specs.Starts.{IsAllowedToStart}
-use Rattle.plan_model.specs.ready_list.specs.Choice.{IsChoice, among, is_among, operations_of}
-use Rattle.plan_model.specs.ready_list.specs.Order.{ready_cmp_total}
+use Rattle.plan_records.specs.plan_model.specs.Ready.{IsOnAutomatic, OneChoice, named}
+use Rattle.plan_records.specs.plan_model.specs.Starts.{IsAllowedToStart}
+use Rattle.plan_records.specs.plan_model.specs.ready_list.specs.Choice.{IsChoice, among, is_among, operations_of}
+use Rattle.plan_records.specs.plan_model.specs.ready_list.specs.Order.{ready_cmp_total}
 
 pub one_ready_list : OneReadyList
 one_ready_list P xs ys x y =

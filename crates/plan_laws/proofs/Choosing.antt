@@ -2,17 +2,17 @@
 use Rattle.std.proofs.Common.{◌≡◌, inl, inr, refl, sym, ◌∙◌, subst, false, List, [], ◌∷◌, ◌++◌, append-nil, append_assoc}
 use Rattle.plan_basics.specs.declared.Attr.TheVariants.{Automatic}
 use Rattle.plan_basics.specs.declared.keys.OpKey.{OpKey}
-use Rattle.plan_model.specs.ready_list.proofs.Steps.{chosen_named, chosen_none, chosen_passed, chosen_skipped}
-use Rattle.plan_model.specs.ready_list.specs.Choice.{IsChoice, is_among, operations_of}
+use Rattle.plan_records.specs.plan_model.specs.ready_list.proofs.Steps.{chosen_named, chosen_none, chosen_passed, chosen_skipped}
+use Rattle.plan_records.specs.plan_model.specs.ready_list.specs.Choice.{IsChoice, is_among, operations_of}
 use Rattle.plan_laws.proofs.Allowing.{allowed_told}
 use Rattle.plan_laws.proofs.Entries.{told_has}
 use Rattle.plan_laws.proofs.Readying.{once, one_entry, ready_list}
 use Rattle.plan_laws.proofs.Decide.{told_attribute}
 use Rattle.operation_graph.proofs.Telling.{Told}
 use Rattle.plan_laws.specs.Derived.{SomeChoice}
-use Rattle.plan_model.specs.Contents.{HasAttribute}
-use Rattle.plan_model.specs.Ready.{IsOnAutomatic, named}
-use Rattle.plan_model.specs.Starts.{IsAllowedToStart}
+use Rattle.plan_records.specs.plan_model.specs.Contents.{HasAttribute}
+use Rattle.plan_records.specs.plan_model.specs.Ready.{IsOnAutomatic, named}
+use Rattle.plan_records.specs.plan_model.specs.Starts.{IsAllowedToStart}
 
 module _ (automatic : OpKey → Type 0) (allowed : List OpKey → OpKey → Type 0) (automatic_told : (o : OpKey) → Told (automatic o)) (may_told : (os : List OpKey) (o : OpKey) → Told (allowed os o))
     (ready : List OpKey) (fresh : (before after : List OpKey) (o : OpKey) → ready ≡ before ++ o ∷ after → is_among before o ≡ false) where

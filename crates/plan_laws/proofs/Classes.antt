@@ -9,8 +9,8 @@ use Rattle.status_rules.specs.declared.Mark.{Mark}
 use Rattle.status_rules.specs.declared.Mark.TheVariants as mark
 use Rattle.status_rules.specs.declared.Status.{Status}
 use Rattle.status_rules.specs.declared.Status.TheVariants as status
-use Rattle.plan_model.specs.Contents.{Contents, Operation}
-use Rattle.plan_model.specs.Status.{HasStatus, IsReady, IsSatisfied, IsUnderWay, IsWaitingOrReady, UnmarkedStatus}
+use Rattle.plan_records.specs.plan_model.specs.Contents.{Contents, Operation}
+use Rattle.plan_records.specs.plan_model.specs.Status.{HasStatus, IsReady, IsSatisfied, IsUnderWay, IsWaitingOrReady, UnmarkedStatus}
 use Rattle.plan_laws.proofs.Decide.{invert}
 use Rattle.std.proofs.lemmas.Option.{same_Some}
 use Rattle.plan_laws.proofs.Standing.{one_status}

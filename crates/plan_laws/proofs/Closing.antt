@@ -8,8 +8,8 @@ use Rattle.plan_basics.specs.declared.keys.OpKey.{OpKey}
 use Rattle.std.proofs.lemmas.Bool.{or_cases, or_left, or_right}
 use Rattle.operation_graph.proofs.Joining.{stays_acyclic}
 use Rattle.plan_laws.proofs.Pairs.{pair_cmp_total, pair_same}
-use Rattle.plan_model.specs.Contents.{IsPairOf, Pairs, pair_cmp}
-use Rattle.plan_model.specs.Valid.{IsAcyclic}
+use Rattle.plan_records.specs.plan_model.specs.Contents.{IsPairOf, Pairs, pair_cmp}
+use Rattle.plan_records.specs.plan_model.specs.Valid.{IsAcyclic}
 
 pub pair_closes_a_path : (pairs : Pairs) (p s : OpKey) → IsAcyclic pairs → IsAcyclic (set.insert pairs (p, s)) ↔ ((p ≢ s) × ¬ LeadsBy (IsPairOf pairs) s p)
 pair_closes_a_path pairs p s acyclic =

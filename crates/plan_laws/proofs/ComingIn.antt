@@ -18,11 +18,11 @@ use Rattle.plan_laws.proofs.Pairs.{pair_cmp_total, pair_same}
 use Rattle.plan_laws.proofs.Flags.{waiting_not_satisfied, waiting_unmarked}
 use Rattle.plan_records.specs.plan_drafts.proofs.Tables.{is_found}
 use Rattle.std.proofs.lemmas.Option.{same_Some}
-use Rattle.plan_model.specs.Holdings.{Holds, holds_resource}
-use Rattle.plan_model.specs.Contents.{Contents, IsInPlan, IsLive, IsPairOf, LivePredecessor, Occurrences, Operation, Operations, Pairs, AddedParts, pair_cmp}
-use Rattle.plan_model.specs.Revise.{get-joined, joined, or_else}
-use Rattle.plan_model.specs.Status.{AllPredecessorsSatisfied, IsSatisfied, IsWaitingOrReady}
-use Rattle.plan_model.specs.Valid.{AreOccurrences, IsSound, IsUntouched, IsValid, MayBear}
+use Rattle.plan_records.specs.plan_model.specs.Holdings.{Holds, holds_resource}
+use Rattle.plan_records.specs.plan_model.specs.Contents.{Contents, IsInPlan, IsLive, IsPairOf, LivePredecessor, Occurrences, Operation, Operations, Pairs, AddedParts, pair_cmp}
+use Rattle.plan_records.specs.plan_model.specs.Revise.{get-joined, joined, or_else}
+use Rattle.plan_records.specs.plan_model.specs.Status.{AllPredecessorsSatisfied, IsSatisfied, IsWaitingOrReady}
+use Rattle.plan_records.specs.plan_model.specs.Valid.{AreOccurrences, IsSound, IsUntouched, IsValid, MayBear}
 use Rattle.plan_records.specs.Acceptance.{IsNew, IsOld, MayBeAdded}
 use Rattle.plan_records.specs.Changes.{with_added}
 use Rattle.plan_records.specs.plan_drafts.specs.Drafts.{IsExtension, IsOwn}

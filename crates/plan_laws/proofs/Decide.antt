@@ -13,8 +13,8 @@ use Rattle.status_rules.specs.declared.Mark.TheVariants as mark
 use Rattle.plan_laws.proofs.Entries.{told_has, told_operations}
 use Rattle.std.proofs.lemmas.Option.{none-some, same_Some}
 use Rattle.operation_graph.proofs.Telling.{Told, if_told, is_told, told_alike, told_and, told_if, told_if_then, told_none, told_or, told_true}
-use Rattle.plan_model.specs.Contents.{Contents, Has, HasAttribute, IsLive, LivePredecessor, Operation, Precedes, attribute_at}
-use Rattle.plan_model.specs.Status.{AllPredecessorsSatisfied, IsInEachClosedSet, IsSatisfied, NeedsNoReport}
+use Rattle.plan_records.specs.plan_model.specs.Contents.{Contents, Has, HasAttribute, IsLive, LivePredecessor, Operation, Precedes, attribute_at}
+use Rattle.plan_records.specs.plan_model.specs.Status.{AllPredecessorsSatisfied, IsInEachClosedSet, IsSatisfied, NeedsNoReport}
 pub use Rattle.plan_laws.proofs.Pairs.{pair_cmp_total, pair_same}
 
 -- why it is satisfied

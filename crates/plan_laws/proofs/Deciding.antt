@@ -28,10 +28,10 @@ use Rattle.plan_laws.proofs.Standing.{status_told}
 use Rattle.plan_laws.proofs.Waiting.{some_left}
 use Rattle.plan_laws.proofs.Decide.{told_attribute}
 use Rattle.operation_graph.proofs.Telling.{Told, told_alike, told_and, told_if_then, told_none, told_or, told_true}
-use Rattle.plan_model.specs.Plan.{Plan}
-use Rattle.plan_model.specs.Contents.{Contents, Operation, AddedParts, attribute_at}
-use Rattle.plan_model.specs.Valid.{AmountsFit, HaveResources, HaveWorkstations, IsAcyclic}
-use Rattle.plan_model.specs.declared.Stock.{Stock}
+use Rattle.plan_records.specs.plan_model.specs.Plan.{Plan}
+use Rattle.plan_records.specs.plan_model.specs.Contents.{Contents, Operation, AddedParts, attribute_at}
+use Rattle.plan_records.specs.plan_model.specs.Valid.{AmountsFit, HaveResources, HaveWorkstations, IsAcyclic}
+use Rattle.plan_records.specs.plan_model.specs.declared.Stock.{Stock}
 use Rattle.special_resources.specs.Holders.{Usage}
 use Rattle.plan_records.specs.Acceptance.{IsBadText, IsLoad, IsNew, IsOld, MayBeAccepted, MayBeAdded, MayBeCompleted, MayBeDeleted, MayBeDone, MayBeEnded, MayBeFlagged, MayBeInterrupted, MayBeLoaded, MayBeOpenBy, MayBePaired, MayBeRerun, MayBeSetAvailable, MayBeStarted, MayBeUndecided, NeedsPlan, OfOperation, minute_of}
 use Rattle.plan_records.specs.Changes.{LeavesOver, with_pair, with_added}

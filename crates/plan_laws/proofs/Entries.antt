@@ -5,10 +5,10 @@ use Rattle.std.specs.Cmp.{IsTotalOrder}
 use Rattle.std.specs.FinMap.{FinMap, IsAntisymmetric, get, keys}
 use Rattle.plan_basics.specs.Keys.{operation_cmp-IsAntisymmetric, operation_cmp_total}
 use Rattle.plan_basics.specs.declared.keys.OpKey.{OpKey}
-use Rattle.plan_model.proofs.Members.{in_keys}
+use Rattle.plan_records.specs.plan_model.proofs.Members.{in_keys}
 use Rattle.std.proofs.lemmas.Option.{none-some, same_Some}
 use Rattle.operation_graph.proofs.Telling.{Told, told_all, told_any, told_contains, told_equal}
-use Rattle.plan_model.specs.Contents.{Contents, Has, IsInPlan, Operation}
+use Rattle.plan_records.specs.plan_model.specs.Contents.{Contents, Has, IsInPlan, Operation}
 
 -- the value, if there is one
 found_told : {X : Type 0} (Q : X → Type 0) (x : Option X) → ((v : X) → x ≡ Some v → Told (Q v)) → Told ((v : X) × (x ≡ Some v) × Q v)

@@ -18,18 +18,18 @@ use Rattle.plan_laws.proofs.Reports.{complete_keeps_sound, end_keeps_sound, erro
 use Rattle.plan_laws.proofs.Rerun.{rerun_keeps_sound}
 use Rattle.plan_laws.proofs.Runs.{accepted_call, refused_changes_nothing}
 use Rattle.plan_laws.proofs.Starts.{starts_are_provided_for}
-use Rattle.plan_model.specs.Plan.{Plan, no_plan, IsSoundPlan}
-use Rattle.plan_model.specs.Contents.{nothing, IsPairOf, Operation, pair_cmp}
-use Rattle.plan_model.specs.declared.Occurrence.{Occurrence}
-use Rattle.plan_model.specs.declared.Stock.{Stock}
-use Rattle.plan_model.specs.Status.{HasStatus}
-use Rattle.plan_model.specs.Valid.{IsSound}
+use Rattle.plan_records.specs.plan_model.specs.Plan.{Plan, no_plan, IsSoundPlan}
+use Rattle.plan_records.specs.plan_model.specs.Contents.{nothing, IsPairOf, Operation, pair_cmp}
+use Rattle.plan_records.specs.plan_model.specs.declared.Occurrence.{Occurrence}
+use Rattle.plan_records.specs.plan_model.specs.declared.Stock.{Stock}
+use Rattle.plan_records.specs.plan_model.specs.Status.{HasStatus}
+use Rattle.plan_records.specs.plan_model.specs.Valid.{IsSound}
 use Rattle.plan_records.specs.Laws.{BecomesStarted, ChangeKeepsSound, ReachedStartsAreProvidedFor, RunKeepsSound, StepKeepsSound, request_of}
 use Rattle.plan_records.specs.Run.{Answers, Call, CallStep, Run, State, Usable, numbered, plain, usable}
 use Rattle.plan_records.specs.Step.{Numbered, NumberedMayBeAccepted, Receipts, Step, StepBy}
 use Rattle.plan_records.specs.Answer.{Answer}
 use Rattle.plan_records.specs.declared.What.{What}
-use Rattle.plan_model.specs.workstations.specs.Workstations.{Workstation}
+use Rattle.plan_records.specs.plan_model.specs.workstations.specs.Workstations.{Workstation}
 
 pub every_change_keeps_sound : (w : What) → ChangeKeepsSound w
 every_change_keeps_sound (what.Load None) = λ P Q at sound may request c. absurd (none-some Q c)

@@ -9,17 +9,17 @@ use Rattle.plan_basics.specs.Keys.{Name, name_cmp, name_cmp-IsAntisymmetric, occ
 use Rattle.plan_basics.specs.declared.Refusal.TheVariants as refusal
 use Rattle.plan_basics.specs.declared.keys.OccKey.{OccKey}
 use Rattle.plan_basics.specs.declared.keys.OpKey.{OpKey}
-use Rattle.plan_model.specs.ready_list.specs.Choice.{is_among}
+use Rattle.plan_records.specs.plan_model.specs.ready_list.specs.Choice.{is_among}
 use Rattle.status_rules.specs.declared.Mark.{Mark}
 use Rattle.status_rules.specs.declared.Mark.TheVariants as mark
-use Rattle.plan_model.specs.workstations.specs.Workstations.{Workstation, with_intervals}
-use Rattle.plan_model.proofs.Looks.{as_named, get-named}
-use Rattle.plan_model.specs.Contents.{AddedParts, Contents, Operation, Precedes, nothing, pair_cmp, with_availability}
-use Rattle.plan_model.specs.Plan.{Plan, IsSoundPlan}
-use Rattle.plan_model.specs.Ready.{named, with_mark}
-use Rattle.plan_model.specs.Revise.{get-joined, get-revise, revise}
-use Rattle.plan_model.specs.Valid.{IsValid}
-use Rattle.plan_model.specs.declared.Stock.{Stock}
+use Rattle.plan_records.specs.plan_model.specs.workstations.specs.Workstations.{Workstation, with_intervals}
+use Rattle.plan_records.specs.plan_model.proofs.Looks.{as_named, get-named}
+use Rattle.plan_records.specs.plan_model.specs.Contents.{AddedParts, Contents, Operation, Precedes, nothing, pair_cmp, with_availability}
+use Rattle.plan_records.specs.plan_model.specs.Plan.{Plan, IsSoundPlan}
+use Rattle.plan_records.specs.plan_model.specs.Ready.{named, with_mark}
+use Rattle.plan_records.specs.plan_model.specs.Revise.{get-joined, get-revise, revise}
+use Rattle.plan_records.specs.plan_model.specs.Valid.{IsValid}
+use Rattle.plan_records.specs.plan_model.specs.declared.Stock.{Stock}
 use Rattle.plan_records.specs.plan_drafts.proofs.Needed.{mapped}
 use Rattle.plan_records.specs.plan_drafts.proofs.Tables.{is_found}
 use Rattle.plan_records.specs.plan_drafts.specs.Drafts.{IsAddition}

@@ -5,8 +5,8 @@ use Rattle.plan_records.specs.declared.What.TheVariants as what
 use Rattle.plan_records.specs.Answer.{accepted, refused}
 use Rattle.plan_basics.specs.Minutes.{IsMoment}
 use Rattle.plan_laws.proofs.Kept.{choice_keeps_sound}
-use Rattle.plan_model.specs.Plan.{IsSoundPlan}
-use Rattle.plan_model.specs.Valid.{IsSound}
+use Rattle.plan_records.specs.plan_model.specs.Plan.{IsSoundPlan}
+use Rattle.plan_records.specs.plan_model.specs.Valid.{IsSound}
 use Rattle.plan_records.specs.Acceptance.{minute_of}
 use Rattle.plan_records.specs.Laws.{ChangeKeepsSound, StepKeepsSound}
 use Rattle.plan_records.specs.declared.Request.{Request}

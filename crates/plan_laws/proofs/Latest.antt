@@ -3,7 +3,7 @@ use Rattle.std.proofs.Common.{◌≡◌, ◌⊎◌, inl, inr, refl, sym, subst, 
 use Rattle.std.specs.Prelude.{◌≤ℤ◌}
 use Rattle.std.specs.FinSet as set
 use Rattle.std.proofs.lemmas.Int.{by_lt_z, ints}
-use Rattle.plan_model.specs.latest_start.specs.LeastStart.{IsLeastStart, start_by}
+use Rattle.plan_records.specs.plan_model.specs.latest_start.specs.LeastStart.{IsLeastStart, start_by}
 use Rattle.operation_graph.specs.Paths.{IsPathBy, IsRankBy}
 use Rattle.plan_basics.specs.declared.keys.OpKey.{OpKey}
 use Rattle.plan_laws.proofs.Listed.{Listed, alike_listed, either_listed, images_listed, one_listed, union_listed, where_told}
@@ -14,9 +14,9 @@ use Rattle.plan_laws.proofs.Decide.{told_live}
 use Rattle.plan_laws.proofs.Entries.{same_operation}
 use Rattle.operation_graph.proofs.Telling.{Told, told_and}
 use Rattle.plan_laws.specs.Derived.{EachHasOneLatestStart}
-use Rattle.plan_model.specs.Contents.{Contents, IsLive, Precedes}
-use Rattle.plan_model.specs.Starts.{IsLatestStart}
-use Rattle.plan_model.specs.Valid.{IsAcyclic}
+use Rattle.plan_records.specs.plan_model.specs.Contents.{Contents, IsLive, Precedes}
+use Rattle.plan_records.specs.plan_model.specs.Starts.{IsLatestStart}
+use Rattle.plan_records.specs.plan_model.specs.Valid.{IsAcyclic}
 
 -- ---- the least of finitely many
 

@@ -19,11 +19,11 @@ use Rattle.plan_laws.proofs.Pairs.{pair_cmp-IsAntisymmetric, pair_cmp_total}
 use Rattle.operation_graph.specs.Paths.{LeadsBy, by_edge, by_more}
 use Rattle.plan_records.specs.plan_drafts.proofs.Lists.{length_map}
 use Rattle.plan_records.specs.plan_drafts.proofs.Tables.{is_found}
-use Rattle.plan_model.proofs.Entries.{entries_in_order, keys_of-entries}
-use Rattle.plan_model.specs.Contents.{Contents, IsLive, IsPairOf, LivePredecessor, Operation}
-use Rattle.plan_model.specs.Holdings.{Holds}
-use Rattle.plan_model.specs.Status.{AllPredecessorsSatisfied, IsSatisfied}
-use Rattle.plan_model.specs.Valid.{IsAcyclic, IsSound, IsValid}
+use Rattle.plan_records.specs.plan_model.proofs.Entries.{entries_in_order, keys_of-entries}
+use Rattle.plan_records.specs.plan_model.specs.Contents.{Contents, IsLive, IsPairOf, LivePredecessor, Operation}
+use Rattle.plan_records.specs.plan_model.specs.Holdings.{Holds}
+use Rattle.plan_records.specs.plan_model.specs.Status.{AllPredecessorsSatisfied, IsSatisfied}
+use Rattle.plan_records.specs.plan_model.specs.Valid.{IsAcyclic, IsSound, IsValid}
 use Rattle.plan_records.specs.Changes.{LeavesOver, with_only}
 use Rattle.special_resources.proofs.Amounts.{no_more as no_more_held}
 use Rattle.special_resources.specs.Holders.{Usage}

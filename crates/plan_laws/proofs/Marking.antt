@@ -10,15 +10,15 @@ use Rattle.plan_basics.specs.Names.{IsName}
 use Rattle.plan_basics.specs.declared.Attr.{Attr}
 use Rattle.plan_basics.specs.declared.keys.OpKey.{OpKey}
 use Rattle.plan_laws.proofs.Entries.{same_operation}
-use Rattle.plan_model.proofs.Looks.{same_key}
+use Rattle.plan_records.specs.plan_model.proofs.Looks.{same_key}
 use Rattle.std.proofs.lemmas.Option.{same_Some}
 use Rattle.plan_laws.proofs.Revising.{now_at, now_elsewhere, valid_revised, was, with_state}
-use Rattle.plan_model.specs.Holdings.{Holds}
-use Rattle.plan_model.specs.Contents.{Contents, Has, HasAttribute, IsLive, LivePredecessor, Operation, attribute_at}
-use Rattle.plan_model.specs.declared.Stock.{Stock}
-use Rattle.plan_model.specs.Ready.{with_mark}
-use Rattle.plan_model.specs.Status.{AllPredecessorsSatisfied, IsSatisfied}
-use Rattle.plan_model.specs.Valid.{IsOperation, IsSound, IsValid, MayBear}
+use Rattle.plan_records.specs.plan_model.specs.Holdings.{Holds}
+use Rattle.plan_records.specs.plan_model.specs.Contents.{Contents, Has, HasAttribute, IsLive, LivePredecessor, Operation, attribute_at}
+use Rattle.plan_records.specs.plan_model.specs.declared.Stock.{Stock}
+use Rattle.plan_records.specs.plan_model.specs.Ready.{with_mark}
+use Rattle.plan_records.specs.plan_model.specs.Status.{AllPredecessorsSatisfied, IsSatisfied}
+use Rattle.plan_records.specs.plan_model.specs.Valid.{IsOperation, IsSound, IsValid, MayBear}
 use Rattle.plan_records.specs.Changes.{is_at, marked, revised}
 use Rattle.special_resources.proofs.Amounts.{one_more}
 use Rattle.special_resources.specs.Holders.{FitsBeside, LeavesEnough, Usage}

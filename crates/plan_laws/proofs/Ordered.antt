@@ -4,13 +4,13 @@ use Rattle.std.specs.FinSet as set
 use Rattle.operation_graph.specs.Paths.{IsRankBy, LeadsBy}
 use Rattle.plan_basics.specs.declared.keys.OpKey.{OpKey}
 use Rattle.plan_laws.proofs.Entries.{same_operation}
-use Rattle.plan_model.proofs.Members.{in_items}
+use Rattle.plan_records.specs.plan_model.proofs.Members.{in_items}
 use Rattle.plan_laws.proofs.Pairs.{pair_cmp-IsAntisymmetric, pair_cmp_total}
 use Rattle.operation_graph.proofs.Ranks.{AreEdges, has_rank, told_acyclic, told_leads}
 use Rattle.operation_graph.proofs.Telling.{Told}
 use Rattle.plan_laws.specs.Ranks.{ValidHasRank}
-use Rattle.plan_model.specs.Contents.{IsPairOf, Pairs}
-use Rattle.plan_model.specs.Valid.{IsAcyclic}
+use Rattle.plan_records.specs.plan_model.specs.Contents.{IsPairOf, Pairs}
+use Rattle.plan_records.specs.plan_model.specs.Valid.{IsAcyclic}
 
 pub pairs_are_edges : (pairs : Pairs) → AreEdges (IsPairOf pairs) (set.items pairs)
 pairs_are_edges pairs a b = in_items pair_cmp_total pair_cmp-IsAntisymmetric pairs (a, b)

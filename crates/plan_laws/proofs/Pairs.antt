@@ -3,7 +3,7 @@ use Rattle.std.proofs.Common.{◌≡◌, ap, true}
 use Rattle.std.specs.Ordering.{eq_by_cmp}
 use Rattle.std.specs.Cmp.{Equal-is}
 use Rattle.plan_basics.specs.declared.keys.OpKey.{OpKey}
-use Rattle.plan_model.specs.Contents.{pair_cmp}
+use Rattle.plan_records.specs.plan_model.specs.Contents.{pair_cmp}
 pub use Rattle.plan_records.specs.plan_drafts.proofs.KeyPlaces.{pair_cmp_total, pair_cmp-IsAntisymmetric}
 
 pub pair_same : (p o a b : OpKey) → eq_by_cmp pair_cmp (p, o) (a, b) ≡ true → (p ≡ a) × (o ≡ b)

@@ -19,10 +19,10 @@ use Rattle.plan_laws.proofs.Ordered.{pairs_are_edges}
 use Rattle.plan_laws.proofs.Readying.{ready_told}
 use Rattle.plan_laws.proofs.Standing.{status_told}
 use Rattle.operation_graph.proofs.Telling.{Told, told_alike, told_and, told_each, told_equal, told_if_then, told_none, told_or, told_some, told_three}
-use Rattle.plan_model.specs.Contents.{Contents, IsInPlan, IsPairOf, Pairs}
-use Rattle.plan_model.specs.Starts.{Reaches}
-use Rattle.plan_model.specs.Status.{EachOperation, HasStatus, IsUnderWay, IsWaitingOrReady}
-use Rattle.plan_model.specs.Valid.{IsAcyclic, IsWithinLimits}
+use Rattle.plan_records.specs.plan_model.specs.Contents.{Contents, IsInPlan, IsPairOf, Pairs}
+use Rattle.plan_records.specs.plan_model.specs.Starts.{Reaches}
+use Rattle.plan_records.specs.plan_model.specs.Status.{EachOperation, HasStatus, IsUnderWay, IsWaitingOrReady}
+use Rattle.plan_records.specs.plan_model.specs.Valid.{IsAcyclic, IsWithinLimits}
 
 -- ---- pairs, keys and limits
 

@@ -6,15 +6,15 @@ use Rattle.std.specs.Ordering.{eq_by_cmp}
 use Rattle.std.specs.FinMap.{get, keys}
 use Rattle.plan_basics.specs.Keys.{operation_cmp, operation_cmp-IsAntisymmetric}
 use Rattle.plan_basics.specs.declared.keys.OpKey.{OpKey}
-use Rattle.plan_model.specs.ready_list.specs.Choice.{is_among, operations_of}
-use Rattle.plan_model.specs.ready_list.proofs.Members.{ready_cmp-IsAntisymmetric}
-use Rattle.plan_model.specs.ready_list.specs.Order.{ready_cmp, ready_cmp_total}
-use Rattle.plan_model.specs.ready_list.specs.declared.ReadyKey.{ReadyKey}
+use Rattle.plan_records.specs.plan_model.specs.ready_list.specs.Choice.{is_among, operations_of}
+use Rattle.plan_records.specs.plan_model.specs.ready_list.proofs.Members.{ready_cmp-IsAntisymmetric}
+use Rattle.plan_records.specs.plan_model.specs.ready_list.specs.Order.{ready_cmp, ready_cmp_total}
+use Rattle.plan_records.specs.plan_model.specs.ready_list.specs.declared.ReadyKey.{ReadyKey}
 use Rattle.status_rules.specs.declared.Status.TheVariants as status
 use Rattle.plan_laws.proofs.Listed.{Listed, alike_listed, none_listed, one_listed, union_listed}
-use Rattle.plan_model.proofs.Members.{in_keys}
+use Rattle.plan_records.specs.plan_model.proofs.Members.{in_keys}
 use Rattle.plan_records.specs.plan_drafts.proofs.Tables.{is_found}
-use Rattle.plan_model.proofs.Looks.{same_key}
+use Rattle.plan_records.specs.plan_model.proofs.Looks.{same_key}
 use Rattle.std.proofs.lemmas.Option.{same_Some}
 use Rattle.plan_laws.proofs.Latest.{one_latest_start, some_latest_start}
 use Rattle.plan_laws.proofs.Sorted.{contains_head, contains_later, not_itself}
@@ -22,10 +22,10 @@ use Rattle.plan_laws.proofs.Sorting.{ascending, ascending_rest, less_before}
 use Rattle.plan_laws.proofs.Standing.{status_told}
 use Rattle.operation_graph.proofs.Telling.{Told, told_or}
 use Rattle.plan_laws.specs.Derived.{SomeReadyList}
-use Rattle.plan_model.specs.Contents.{Contents, IsInPlan}
-use Rattle.plan_model.specs.Ready.{IsEntry, IsReadyList}
-use Rattle.plan_model.specs.Status.{IsReady}
-use Rattle.plan_model.specs.Valid.{IsAcyclic, IsValid}
+use Rattle.plan_records.specs.plan_model.specs.Contents.{Contents, IsInPlan}
+use Rattle.plan_records.specs.plan_model.specs.Ready.{IsEntry, IsReadyList}
+use Rattle.plan_records.specs.plan_model.specs.Status.{IsReady}
+use Rattle.plan_records.specs.plan_model.specs.Valid.{IsAcyclic, IsValid}
 
 pub ready_told : (P : Contents) → IsAcyclic P.pairs → (o : OpKey) → Told (IsReady P o)
 ready_told P acyclic o = told_or (status_told P acyclic o status.Arriving) (told_or (status_told P acyclic o status.ReadyAfterNonreporting) (status_told P acyclic o status.Ready))

@@ -12,17 +12,17 @@ use Rattle.plan_basics.specs.declared.keys.OpKey.{OpKey}
 use Rattle.plan_laws.proofs.Every.{answer_keeps_sound, every_change_keeps_sound, no_plan_is_sound}
 use Rattle.std.proofs.lemmas.Option.{none-some, same_Some}
 use Rattle.plan_laws.proofs.Runs.{accepted_call, refused_changes_nothing}
-use Rattle.plan_model.specs.Contents.{Contents}
-use Rattle.plan_model.specs.Plan.{IsSoundPlan}
-use Rattle.plan_model.specs.Ready.{IsChosen}
-use Rattle.plan_model.specs.Valid.{IsSound}
+use Rattle.plan_records.specs.plan_model.specs.Contents.{Contents}
+use Rattle.plan_records.specs.plan_model.specs.Plan.{IsSoundPlan}
+use Rattle.plan_records.specs.plan_model.specs.Ready.{IsChosen}
+use Rattle.plan_records.specs.plan_model.specs.Valid.{IsSound}
 use Rattle.plan_records.specs.Acceptance.{minute_of}
 use Rattle.plan_records.specs.Receipts.{AreReceipts, IsReceipt}
 use Rattle.plan_records.specs.Run.{Answers, Call, CallStep, State, Usable, empty_state, numbered, plain}
 use Rattle.plan_records.specs.Schedules.{IsDeskState}
 use Rattle.plan_records.specs.Step.{HasReceiptRoom, IsAccepted, IsNumbered, Numbered, NumberedMayBeAccepted, Receipt, last_number}
 use Rattle.plan_records.specs.Answer.{Answer}
-use Rattle.plan_model.specs.ready_list.specs.Choice.{is_among}
+use Rattle.plan_records.specs.plan_model.specs.ready_list.specs.Choice.{is_among}
 
 stands_among : (os : List OpKey) (k : ℕ) (d : OpKey) → k < length os → is_among os (slice_index_or os k d) ≡ true
 stands_among [] k d h = absurd (omega (arith, h))

@@ -4,7 +4,7 @@ use Rattle.std.specs.List.{AllZip, swap}
 use Rattle.std.specs.List.Sorted.{IsPermutation}
 use Rattle.std.proofs.lemmas.List.Sorted.{All-permutation, Contains-permutation, IsPermutation-keeps, IsPermutation-refl, IsPermutation-swap, IsPermutation-sym, IsPermutation-trans}
 use Rattle.std.proofs.lemmas.Slice.Zip.{AllZip-long}
-use Rattle.plan_model.specs.Contents.{Contents, AddedParts}
+use Rattle.plan_records.specs.plan_model.specs.Contents.{Contents, AddedParts}
 use Rattle.plan_records.specs.plan_items.specs.declared.Item.{Item}
 use Rattle.plan_records.specs.plan_items.specs.Items.{Fields, Says}
 use Rattle.plan_records.specs.plan_drafts.specs.declared.RowKey.{RowKey}

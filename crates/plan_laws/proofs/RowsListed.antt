@@ -9,20 +9,20 @@ use Rattle.plan_basics.specs.declared.keys.OccKey.{OccKey}
 use Rattle.plan_basics.specs.declared.keys.OpKey.{OpKey}
 use Rattle.special_resources.specs.Holders.{Usage}
 use Rattle.special_resources.specs.declared.Mode.TheVariants.{Shared}
-use Rattle.plan_model.specs.workstations.specs.Workstations.{Workstation}
+use Rattle.plan_records.specs.plan_model.specs.workstations.specs.Workstations.{Workstation}
 use Rattle.plan_laws.proofs.Listed.{Listed, alike_listed, either_listed, none_listed, one_listed, union_listed, where_told}
-use Rattle.plan_model.proofs.Members.{in_keys}
+use Rattle.plan_records.specs.plan_model.proofs.Members.{in_keys}
 use Rattle.std.proofs.lemmas.Option.{none-some, same_Some}
 use Rattle.plan_laws.proofs.Ordered.{pairs_are_edges}
 use Rattle.plan_laws.proofs.RowsTold.{row_told, same_mode, same_nat}
 use Rattle.plan_laws.proofs.Tabling.{one_row, some_row}
 use Rattle.plan_laws.proofs.Waiting.{one_occurrence_status, some_occurrence_status, told_listed}
-use Rattle.plan_model.specs.Plan.{Plan}
-use Rattle.plan_model.specs.Contents.{Operation, attribute_at}
-use Rattle.plan_model.specs.Status.{HasOccurrenceStatus}
-use Rattle.plan_model.specs.Valid.{IsValid}
-use Rattle.plan_model.specs.declared.Occurrence.{Occurrence}
-use Rattle.plan_model.specs.declared.Stock.{Stock}
+use Rattle.plan_records.specs.plan_model.specs.Plan.{Plan}
+use Rattle.plan_records.specs.plan_model.specs.Contents.{Operation, attribute_at}
+use Rattle.plan_records.specs.plan_model.specs.Status.{HasOccurrenceStatus}
+use Rattle.plan_records.specs.plan_model.specs.Valid.{IsValid}
+use Rattle.plan_records.specs.plan_model.specs.declared.Occurrence.{Occurrence}
+use Rattle.plan_records.specs.plan_model.specs.declared.Stock.{Stock}
 use Rattle.operation_graph.proofs.Telling.{Told, told_and, told_none}
 use Rattle.plan_records.specs.Rows.{IsOperationRow, IsRow, key_of}
 use Rattle.plan_records.specs.declared.OperationRow.{OperationRow}

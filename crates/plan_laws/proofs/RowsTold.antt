@@ -23,12 +23,12 @@ use Rattle.std.proofs.lemmas.Option.{none-some, same_Some}
 use Rattle.plan_laws.proofs.Standing.{status_told}
 use Rattle.operation_graph.proofs.Telling.{Told, told_alike, told_and, told_equal, told_none, told_three, told_true}
 use Rattle.plan_laws.proofs.Waiting.{one_count, one_occurrence_status, same_precedence, some_occurrence_status, some_waiting}
-use Rattle.plan_model.specs.Plan.{Plan}
-use Rattle.plan_model.specs.Contents.{Contents, LivePredecessor, Operation}
-use Rattle.plan_model.specs.Starts.{IsLatestStart}
-use Rattle.plan_model.specs.Status.{HasOccurrenceStatus, HasStatus, IsSatisfied}
-use Rattle.plan_model.specs.Valid.{IsAcyclic}
-use Rattle.plan_model.specs.declared.Occurrence.{Occurrence}
+use Rattle.plan_records.specs.plan_model.specs.Plan.{Plan}
+use Rattle.plan_records.specs.plan_model.specs.Contents.{Contents, LivePredecessor, Operation}
+use Rattle.plan_records.specs.plan_model.specs.Starts.{IsLatestStart}
+use Rattle.plan_records.specs.plan_model.specs.Status.{HasOccurrenceStatus, HasStatus, IsSatisfied}
+use Rattle.plan_records.specs.plan_model.specs.Valid.{IsAcyclic}
+use Rattle.plan_records.specs.plan_model.specs.declared.Occurrence.{Occurrence}
 use Rattle.plan_records.specs.Rows.{IsOperationRow, IsRow, IsWaitingFor}
 use Rattle.plan_records.specs.declared.OperationRow.{OperationRow}
 use Rattle.plan_records.specs.declared.PlanRow.{PlanRow}

@@ -4,7 +4,7 @@ use Rattle.std.specs.List.Sorted.{IsStrictlySortedBy}
 use Rattle.std.specs.Cmp.{IsTotalOrder}
 use Rattle.std.specs.FinMap.{IsAntisymmetric}
 use Rattle.std.specs.Ordering.{ordering_reverse}
-use Rattle.plan_model.specs.ready_list.proofs.Members.{all_by_members}
+use Rattle.plan_records.specs.plan_model.specs.ready_list.proofs.Members.{all_by_members}
 use Rattle.plan_laws.proofs.Listed.{Listed}
 use Rattle.plan_laws.proofs.Sorted.{at_member, contains_cases, contains_head, contains_later}
 

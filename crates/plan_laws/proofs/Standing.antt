@@ -15,9 +15,9 @@ use Rattle.plan_laws.proofs.Ordered.{pairs_have_rank}
 use Rattle.plan_laws.proofs.Tables.{status_is}
 use Rattle.operation_graph.proofs.Telling.{Told, if_told, is_told, told_alike, told_and, told_four, told_if, told_if_then, told_none, told_not, told_three}
 use Rattle.plan_laws.specs.Derived.{EachHasOneStatus, SatisfiedIsTold}
-use Rattle.plan_model.specs.Contents.{Contents, Has, HasAttribute, IsInPlan, LivePredecessor}
-use Rattle.plan_model.specs.Status.{AllPredecessorsSatisfied, ArePreds, FollowsNonreporting, HasStatus, IsSatisfied, UnmarkedStatus}
-use Rattle.plan_model.specs.Valid.{IsAcyclic, IsValid}
+use Rattle.plan_records.specs.plan_model.specs.Contents.{Contents, Has, HasAttribute, IsInPlan, LivePredecessor}
+use Rattle.plan_records.specs.plan_model.specs.Status.{AllPredecessorsSatisfied, ArePreds, FollowsNonreporting, HasStatus, IsSatisfied, UnmarkedStatus}
+use Rattle.plan_records.specs.plan_model.specs.Valid.{IsAcyclic, IsValid}
 
 same_status : (s t : Status) → Told (s ≡ t)
 same_status status.Started status.Started = inl refl

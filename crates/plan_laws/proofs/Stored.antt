@@ -3,7 +3,7 @@ use Rattle.std.proofs.Common.{◌≡◌, inl, inr, refl, sym, ap, subst, subst�
 use Rattle.plan_records.specs.Answer.{accepted, refused}
 use Rattle.plan_laws.proofs.Receipts.{answer_keeps_receipts, empty_is_desk_state}
 use Rattle.plan_laws.proofs.Runs.{accepted_alone, accepted_call, refused_changes_nothing}
-use Rattle.plan_model.specs.Ready.{named}
+use Rattle.plan_records.specs.plan_model.specs.Ready.{named}
 use Rattle.plan_records.specs.Run.{Call, Run, State, Usable, accepted_calls, accepted_replies, empty_state, to_be_reopened, usable}
 use Rattle.plan_records.specs.Schedules.{Begins, Event, IsDeskState, IsWithin, Leaves, Schedule, World, was_accepted, between, damaged, ended, ended_calls, found, no_more, nothing, opened, opening, was_refused, stop, stopped, was_in, was_out}
 use Rattle.plan_records.specs.Answer.{Answer}

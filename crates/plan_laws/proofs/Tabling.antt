@@ -12,7 +12,7 @@ use Rattle.plan_basics.proofs.OptionLemmas.{same_answer}
 use Rattle.special_resources.specs.Holders.{IsAmount, Usage}
 use Rattle.special_resources.specs.declared.Mode.{Mode}
 use Rattle.special_resources.specs.declared.Mode.TheVariants.{Exclusive, Shared}
-use Rattle.plan_model.specs.workstations.specs.Workstations.{Workstation}
+use Rattle.plan_records.specs.plan_model.specs.workstations.specs.Workstations.{Workstation}
 use Rattle.plan_laws.proofs.Latest.{one_latest_start, some_latest_start}
 use Rattle.std.proofs.lemmas.Option.{none-some, same_Some}
 use Rattle.plan_laws.proofs.RowsTold.{same_nat}
@@ -21,13 +21,13 @@ use Rattle.plan_laws.proofs.Single.{same_bool}
 use Rattle.plan_laws.proofs.Standing.{one_status, some_status}
 use Rattle.plan_laws.proofs.Waiting.{one_count, some_occurrence_status, some_waiting}
 use Rattle.plan_laws.specs.Tables.{EachHasOneRow, RowsTellPlan, RowsTellReceipts}
-use Rattle.plan_model.specs.Plan.{Plan}
-use Rattle.plan_model.specs.Contents.{Contents, LivePredecessor, Operation, Precedes}
-use Rattle.plan_model.specs.Starts.{IsLatestStart}
-use Rattle.plan_model.specs.Status.{HasStatus, IsSatisfied}
-use Rattle.plan_model.specs.Valid.{IsAcyclic, IsValid}
-use Rattle.plan_model.specs.declared.Occurrence.{Occurrence}
-use Rattle.plan_model.specs.declared.Stock.{Stock}
+use Rattle.plan_records.specs.plan_model.specs.Plan.{Plan}
+use Rattle.plan_records.specs.plan_model.specs.Contents.{Contents, LivePredecessor, Operation, Precedes}
+use Rattle.plan_records.specs.plan_model.specs.Starts.{IsLatestStart}
+use Rattle.plan_records.specs.plan_model.specs.Status.{HasStatus, IsSatisfied}
+use Rattle.plan_records.specs.plan_model.specs.Valid.{IsAcyclic, IsValid}
+use Rattle.plan_records.specs.plan_model.specs.declared.Occurrence.{Occurrence}
+use Rattle.plan_records.specs.plan_model.specs.declared.Stock.{Stock}
 use Rattle.plan_records.specs.Rows.{IsOperationRow, IsRow, IsWaitingFor}
 use Rattle.plan_records.specs.declared.OperationRow.{OperationRow}
 use Rattle.plan_records.specs.declared.PlanRow.{PlanRow}

@@ -2,7 +2,7 @@
 use Rattle.std.specs.Prelude.{◌↔◌, List}
 use Rattle.std.specs.List.Sorted.{IsPermutation}
 use Rattle.plan_records.specs.plan_items.specs.Items.{Fields}
-use Rattle.plan_model.specs.Contents.{Contents, AddedParts}
+use Rattle.plan_records.specs.plan_model.specs.Contents.{Contents, AddedParts}
 use Rattle.plan_records.specs.plan_drafts.specs.Records.{Denotes, DenotesAddition, DenotesExtension}
 
 -- the same records in another order denote the same plan

@@ -6,12 +6,12 @@ use Rattle.status_rules.specs.declared.OccStatus.{OccStatus}
 use Rattle.status_rules.specs.declared.Status.{Status}
 use Rattle.status_rules.specs.declared.Status.TheVariants as status
 use Rattle.status_rules.specs.Classes.{is_ready, is_satisfied, is_under_way, is_waiting_or_ready}
-use Rattle.plan_model.specs.Contents.{Contents, IsInPlan}
-use Rattle.plan_model.specs.Status.{HasOccurrenceStatus, HasStatus, IsReady, IsSatisfied, IsUnderWay, IsWaitingOrReady}
-use Rattle.plan_model.specs.Ready.{IsReadyList, IsChosen}
-use Rattle.plan_model.specs.ready_list.specs.declared.ReadyKey.{ReadyKey}
-use Rattle.plan_model.specs.Starts.{IsLatestStart}
-use Rattle.plan_model.specs.Valid.{IsSound, IsValid}
+use Rattle.plan_records.specs.plan_model.specs.Contents.{Contents, IsInPlan}
+use Rattle.plan_records.specs.plan_model.specs.Status.{HasOccurrenceStatus, HasStatus, IsReady, IsSatisfied, IsUnderWay, IsWaitingOrReady}
+use Rattle.plan_records.specs.plan_model.specs.Ready.{IsReadyList, IsChosen}
+use Rattle.plan_records.specs.plan_model.specs.ready_list.specs.declared.ReadyKey.{ReadyKey}
+use Rattle.plan_records.specs.plan_model.specs.Starts.{IsLatestStart}
+use Rattle.plan_records.specs.plan_model.specs.Valid.{IsSound, IsValid}
 use Rattle.plan_records.specs.Changes.{LeavesOver}
 
 -- an operation of a valid plan is satisfied or it isn't

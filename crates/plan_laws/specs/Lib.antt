@@ -1,9 +1,9 @@
 pub use Rattle.operation_graph
 pub use Rattle.plan_records.specs.plan_drafts
 pub use Rattle.plan_records.specs.plan_items
-pub use Rattle.plan_model
+pub use Rattle.plan_records.specs.plan_model
 pub use Rattle.plan_records
-pub use Rattle.plan_model.specs.ready_list
+pub use Rattle.plan_records.specs.plan_model.specs.ready_list
 pub use Rattle.special_resources
 pub mod Steps
 pub mod Ranks

@@ -2,8 +2,8 @@
 use Rattle.std.specs.Prelude.{◌⊎◌, ℕ}
 use Rattle.operation_graph.specs.Paths.{IsRankBy, LeadsBy}
 use Rattle.plan_basics.specs.declared.keys.OpKey.{OpKey}
-use Rattle.plan_model.specs.Contents.{Contents, Pairs, Precedes, IsPairOf}
-use Rattle.plan_model.specs.Valid.{IsAcyclic, IsValid}
+use Rattle.plan_records.specs.plan_model.specs.Contents.{Contents, Pairs, Precedes, IsPairOf}
+use Rattle.plan_records.specs.plan_model.specs.Valid.{IsAcyclic, IsValid}
 
 -- a valid plan has a rank
 abbrev pub ValidHasRank : Type 0

@@ -1,7 +1,7 @@
 -- A request has an answer, and one, which leaves one plan.
 use Rattle.std.specs.Prelude.{◌≡◌, List, All}
 use Rattle.plan_basics.specs.declared.Refusal.TheVariants as refusal
-use Rattle.plan_model.specs.Plan.{Plan, IsSoundPlan}
+use Rattle.plan_records.specs.plan_model.specs.Plan.{Plan, IsSoundPlan}
 use Rattle.plan_records.specs.Changes.{IsRequest}
 use Rattle.plan_records.specs.declared.Request.{Request}
 use Rattle.plan_records.specs.Answer.{Answer}

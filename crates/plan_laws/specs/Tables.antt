@@ -1,9 +1,9 @@
 -- The rows of a valid plan, and those that change: they are there, and they determine the plan.
 use Rattle.std.specs.Prelude.{◌≡◌, ◌↔◌, ℕ, List, Contains}
 use Rattle.plan_basics.specs.declared.keys.OpKey.{OpKey}
-use Rattle.plan_model.specs.Plan.{Plan, IsSoundPlan}
-use Rattle.plan_model.specs.Contents.{Contents, IsInPlan}
-use Rattle.plan_model.specs.Valid.{IsValid}
+use Rattle.plan_records.specs.plan_model.specs.Plan.{Plan, IsSoundPlan}
+use Rattle.plan_records.specs.plan_model.specs.Contents.{Contents, IsInPlan}
+use Rattle.plan_records.specs.plan_model.specs.Valid.{IsValid}
 use Rattle.plan_basics.specs.Keys.{Name}
 use Rattle.plan_records.specs.Answer.{Answer}
 use Rattle.plan_records.specs.Receipts.{IsReceiptRow}

@@ -1,7 +1,7 @@
 -- How many operation records a request may look at: the plans before and after it decide one number.
 use Rattle.std.specs.Prelude.{◌≡◌, ℕ}
-use Rattle.plan_model.specs.Contents.{Contents}
-use Rattle.plan_model.specs.Valid.{IsValid}
+use Rattle.plan_records.specs.plan_model.specs.Contents.{Contents}
+use Rattle.plan_records.specs.plan_model.specs.Valid.{IsValid}
 use Rattle.plan_records.specs.Work.{IsAllowance}
 use Rattle.plan_records.specs.declared.What.{What}
 

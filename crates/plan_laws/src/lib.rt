@@ -4,25 +4,25 @@
 
 mod scheduling;
 
-ghost use Rattle.plan_model.specs.Ready.{OneChoice};
+ghost use Rattle.plan_records.specs.plan_model.specs.Ready.{OneChoice};
 ghost use Rattle.plan_records.specs.Run.{AcceptedAlone};
 ghost use Rattle.plan_records.specs.Run.{State, Usable, Call, Answers};
 ghost use Rattle.plan_records.specs.Laws.{StartsAreProvidedFor, ReachedStartsAreProvidedFor, ChoiceKeepsSound, ChangeKeepsSound, StepKeepsSound, RunKeepsSound};
-ghost use Rattle.plan_model.specs.Valid.{IsAcyclic};
+ghost use Rattle.plan_records.specs.plan_model.specs.Valid.{IsAcyclic};
 ghost use Rattle.plan_records.specs.declared.What.{What};
 ghost use Rattle.plan_records.specs.Answer.{refused};
 ghost use Rattle.plan_basics.specs.declared.Refusal.{Refusal};
 ghost use Rattle.plan_basics.specs.declared.keys.OpKey.{OpKey};
-ghost use Rattle.plan_model.specs.Plan.{no_plan, IsSoundPlan};
-ghost use Rattle.plan_model.specs.Contents.{Contents, Operation, Pairs, IsPairOf, Precedes};
+ghost use Rattle.plan_records.specs.plan_model.specs.Plan.{no_plan, IsSoundPlan};
+ghost use Rattle.plan_records.specs.plan_model.specs.Contents.{Contents, Operation, Pairs, IsPairOf, Precedes};
 ghost use Rattle.std.specs.FinSet as set;
-ghost use Rattle.plan_model.specs.workstations.specs.Workstations.{Workstation};
+ghost use Rattle.plan_records.specs.plan_model.specs.workstations.specs.Workstations.{Workstation};
 ghost use Rattle.status_rules.specs.declared.Preds.{Preds};
 ghost use Rattle.status_rules.specs.Table.{status_by};
 ghost use Rattle.operation_graph.specs.Paths.{IsRankBy, LeadsBy};
 ghost use Rattle.plan_records.specs.Rows.{IsWaitingFor};
 ghost use Rattle.std.specs.FinMap.{get};
-ghost use Rattle.plan_model.specs.Status.{IsSatisfied, HasStatus, AllPredecessorsSatisfied, ArePreds, IsInEachClosedSet};
+ghost use Rattle.plan_records.specs.plan_model.specs.Status.{IsSatisfied, HasStatus, AllPredecessorsSatisfied, ArePreds, IsInEachClosedSet};
 ghost use Rattle.plan_laws.specs.Steps.{OneStep, OneNumberedStep, OneRun, SomeStep, SomeNumberedStep, SomeRun, PlanAnswers};
 ghost use Rattle.plan_laws.specs.Derived.{SatisfiedIsTold, SatisfiedByStatus, ClassesOfStatus, EachHasOneStatus, EachHasOneLatestStart, SomeReadyList, OneReadyList, SomeChoice, EachHasOneOccurrenceStatus, EachLeavesOneSoundPlan};
 ghost use Rattle.plan_laws.specs.Denoting.{OrderDoesNotMatter, OrderDoesNotMatterToAdditions, OrderDoesNotMatterToExtensions};

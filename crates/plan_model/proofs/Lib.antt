@@ -1,3 +1,4 @@
 pub mod Entries
 pub mod Looks
 pub mod Members
+pub mod Taking

@@ -12,7 +12,7 @@ use Rattle.plan_basics.specs.Keys.{Name, name_cmp_total, name_cmp-IsAntisymmetri
 use Rattle.plan_basics.specs.declared.keys.OpKey.{OpKey}
 use Rattle.plan_basics.specs.declared.limits.TheConstants.{MOST_QUANTITY}
 use Rattle.plan_drafts.proofs.Lists.{differ_filter, differ_from_pairs, differ_weaken, from_filter, in_filter, pairs_from_differ, Differ}
-use Rattle.plan_drafts.proofs.OwnNeeds.{need_cmp_total, need_cmp-IsAntisymmetric}
+use Rattle.plan_denotation.proofs.OwnNeeds.{need_cmp_total, need_cmp-IsAntisymmetric}
 use Rattle.plan_drafts.proofs.Tables.{get_row, row_found, rows_apart}
 use Rattle.plan_drafts.specs.KeyOrder.{AreInKeyOrder}
 use Rattle.plan_drafts.specs.declared.RowKey.TheVariants as key

@@ -5,7 +5,7 @@ ghost use Rattle.std.specs.List.Sorted.{IsStrictlySortedBy};
 ghost use Rattle.plan_records.specs.Rows.{key_of, row_cmp};
 ghost use Rattle.plan_opening.specs.These.{AreThese};
 
-use plan_drafts::in_key_order;
+use plan_denotation::in_key_order;
 use plan_records::PlanRow;
 use std::alloc::{AllocError, Global};
 

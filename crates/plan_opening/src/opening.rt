@@ -44,46 +44,46 @@ fn sound_contents_of(alloc: Global, rows: &[PlanRow]) -> Result<Option<SoundCont
     judged(alloc, ValidContents::of(contents))
 }
 
-// Whether these are all rows of what is shown as a loaded plan at this clock, each once, where this is kept of it. The error is always
+// Whether these are all rows of the records as a loaded plan at this clock, each once, where this is kept of it. The error is always
 // `Memory`.
 fn are_rows_of(
     alloc: Global,
     clock: Moment,
-    shown: &mut CountedRecords,
+    records: &mut CountedRecords,
     derived: DerivedRefs<'_>,
     rows: &[PlanRow],
 ) -> Result<bool, Refusal>
-    requires derived { AreDerivedOf shown.old.contents derived }
-    ensures told { IfOk result (λ told. IsTrue told ↔ AreRows (plan_held clock (Some shown.old.contents)) rows.now) }
-    ensures contents { shown.new.contents ≡ shown.old.contents }
+    requires derived { AreDerivedOf records.old.contents derived }
+    ensures told { IfOk result (λ told. IsTrue told ↔ AreRows (plan_held clock (Some records.old.contents)) rows.now) }
+    ensures contents { records.new.contents ≡ records.old.contents }
     ensures refused { IfErr result (λ r. r ≡ Refusal.Memory) }
 {
-    shown.uncounted().are_sound();
-    let all = rows_of(alloc, shown, columns_of(derived), clock)?;
+    records.uncounted().are_sound();
+    let all = rows_of(alloc, records, columns_of(derived), clock)?;
     Ok(are_these(alloc, rows, &all)?)
 }
 
-// What is kept of what is shown, which has this graph, if these are all of its rows as a loaded plan at this clock. The error is always
-// `Memory`.
+// What is kept of the plan of these records, which has this graph, if these are all of its rows as a loaded plan at this clock. The error
+// is always `Memory`.
 fn kept_with_rows(
     alloc: Global,
     clock: Moment,
-    shown: &mut CountedRecords,
+    records: &mut CountedRecords,
     graph: &Graph,
     rows: &[PlanRow],
 ) -> Result<Option<DerivedAfresh>, Refusal>
-    requires graph { IsGraphFor shown.old.contents graph.now }
-    ensures found { IfOk result (λ found. MatchOption found (¬ AreRows (plan_held clock (Some shown.old.contents)) rows.now) (λ w. AreRows (plan_held clock (Some shown.old.contents)) rows.now × IsDerivedAfresh shown.old.contents w)) }
-    ensures contents { shown.new.contents ≡ shown.old.contents }
+    requires graph { IsGraphFor records.old.contents graph.now }
+    ensures found { IfOk result (λ found. MatchOption found (¬ AreRows (plan_held clock (Some records.old.contents)) rows.now) (λ w. AreRows (plan_held clock (Some records.old.contents)) rows.now × IsDerivedAfresh records.old.contents w)) }
+    ensures contents { records.new.contents ≡ records.old.contents }
     ensures refused { IfErr result (λ r. r ≡ Refusal.Memory) }
 {
-    let derived_afresh = derived_afresh(alloc, shown, graph)?;
+    let derived_afresh = derived_afresh(alloc, records, graph)?;
     let derived = DerivedRefs {
         graph,
         latest: &derived_afresh.latest,
         figures: &derived_afresh.figures,
     };
-    if !are_rows_of(alloc, clock, shown, derived, rows)? {
+    if !are_rows_of(alloc, clock, records, derived, rows)? {
         return Ok(None);
     }
     Ok(Some(derived_afresh))
@@ -101,9 +101,9 @@ fn loaded_with_rows(
 {
     let graph = graph_for(alloc, contents.valid())?;
     let permit = granted();
-    let mut shown = CountedRecords::of(contents, &permit);
-    let kept = kept_with_rows(alloc, clock, &mut shown, &graph, rows);
-    let (contents, _looks) = shown.into_contents(&permit);
+    let mut records = CountedRecords::of(contents, &permit);
+    let kept = kept_with_rows(alloc, clock, &mut records, &graph, rows);
+    let (contents, _looks) = records.into_contents(&permit);
     match kept? {
         Some(kept) => Ok(Some(LoadedPlan::of(contents, graph, kept.latest, kept.figures))),
         None => Ok(None),

@@ -113,7 +113,7 @@ fn never_of(refs: &ForecastRefs<'_>, first: usize, end: usize) -> usize
 fn is_outstanding(status: OccStatus) -> bool
     ensures { Decides result (¬ (status ≡ occurrence.Complete) × ¬ (status ≡ occurrence.Deleted)) }
 {
-    !matches!(status, OccStatus::Complete | OccStatus::Deleted)
+    !status.is_over()
 }
 
 // What is told of an occurrence of the plan, if it is neither complete nor deleted.

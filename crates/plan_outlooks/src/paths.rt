@@ -133,7 +133,7 @@ fn opens_at(refs: &ForecastRefs<'_>, operation: &OperationRecord, moment: Moment
 fn takes(attribute: Attr) -> bool
     ensures { result ≡ takes (Some attribute) }
 {
-    matches!(attribute, Attr::Automatic | Attr::StartAndCompletion)
+    attribute.knows_starts()
 }
 
 // Whether an operation needs a special resource.

@@ -1,8 +1,9 @@
 // Reasons that follow from the operation's own status, flags and not-before.
-ghost use Rattle.std.specs.Prelude.{◌≡◌, ℕ, true};
+ghost use Rattle.std.specs.Prelude.{◌≡◌, ℕ, true, Some};
 ghost use Rattle.std.specs.Option.{is_none};
 ghost use Rattle.plan_basics.specs.declared.keys.OpKey.{OpKey};
 ghost use Rattle.plan_model.specs.Contents.{Contents};
+ghost use Rattle.plan_model.specs.Holdings.{takes};
 ghost use Rattle.plan_model.specs.Valid.{IsValid};
 ghost use Rattle.plan_reasons.specs.Parts.{IsOfKind};
 ghost use Rattle.plan_reasons.specs.Places.{goes_on_from};
@@ -88,14 +89,17 @@ fn is_unmarked(mark: &Mark) -> bool
     matches!(mark, Mark::Unmarked)
 }
 
+// Whether operations take anything of a workstation that reports so.
+fn takes(attribute: Attr) -> bool
+    ensures { result ≡ takes (Some attribute) }
+{
+    attribute.knows_starts()
+}
+
 /// Whether an operation goes on by a start, with a server and its resources.
 pub fn needs_start(reported: &ReportedOperation<'_>) -> bool
     ensures { (P : Contents) (o : OpKey) → IsReported P o reported.now → result ≡ needs_start P reported.now.operation.now }
 {
-    let known = matches!(
-        reported.attribute,
-        Attr::Automatic | Attr::StartAndCompletion
-    );
     let operation = reported.operation;
-    known && !(operation.nop && is_unmarked(&operation.mark))
+    takes(reported.attribute) && !(operation.nop && is_unmarked(&operation.mark))
 }

@@ -14,7 +14,7 @@ use Rattle.plan_records.specs.Rows.{AreChanges, AreRows, IsRow, key_of, row_cmp,
 use Rattle.plan_records.specs.declared.PlanRow.{PlanRow}
 use Rattle.plan_records.specs.declared.PlanRow.TheVariants as row
 use Rattle.plan_rows.proofs.NoRows.{none_ascend}
-use Rattle.plan_rows.specs.Shown.{IsShownIfAny, plan_shown}
+use Rattle.plan_rows.specs.Sources.{IsSourceIfAny, plan_if_any}
 use Rattle.plan_rows.specs.Tables.{IsRowBelow}
 use Rattle.plan_rows.specs.declared.row_sources.RowSource.{RowSource}
 use Rattle.row_differences.proofs.Joined.{described}
@@ -53,7 +53,7 @@ in_no_table P Q = record {
 }
 
 -- no row of a loaded plan is one of a plan before a load
-new_row : (clock now : ℕ) (s : RowSource) (r : PlanRow) → IsRow (plan_shown clock None) r → IsRow (plan_shown now (Some s)) r → ⊥
+new_row : (clock now : ℕ) (s : RowSource) (r : PlanRow) → IsRow (plan_if_any clock None) r → IsRow (plan_if_any now (Some s)) r → ⊥
 new_row clock now s (row.Meta version loaded at) h is = true≢false (sym is.1 ∙ h.1)
 new_row clock now s (row.Workstation name a) h is = nothing_at (option_map (λ ws. ws.attribute) (get nothing.workstations name)) a (ap (option_map (λ ws. ws.attribute)) (get-empty name_cmp name)) h
 new_row clock now s (row.Interval w i) h is = nothing_at (get nothing.workstations w) h.0 (get-empty name_cmp w) h.1
@@ -66,13 +66,13 @@ new_row clock now s (row.Quantity r quantity) h is = nothing_at (get nothing.res
 new_row clock now s (row.Amount o r amount) h is = nothing_at (get nothing.operations o) h.0 (get-empty operation_cmp o) h.1
 
 -- what changes where a plan is loaded is all of its rows
-pub all_new : (clock now : ℕ) (s : RowSource) (rows : List PlanRow) (gone : List RowKey) → AreChanges (plan_shown clock None) (plan_shown now (Some s)) rows gone → AreRows (plan_shown now (Some s)) rows
+pub all_new : (clock now : ℕ) (s : RowSource) (rows : List PlanRow) (gone : List RowKey) → AreChanges (plan_if_any clock None) (plan_if_any now (Some s)) rows gone → AreRows (plan_if_any now (Some s)) rows
 all_new clock now s rows gone h = record {
   has_all = λ r. (λ has. ((h.has_rows r).0 has).0, λ is. (h.has_rows r).1 (is, λ was. new_row clock now s r was is));
   once = each_once rows h.rows_ascend;
 }
 
--- the workstations of what is shown are legal
-pub legal_workstations : (clock : ℕ) (shown : Option RowSource) → IsShownIfAny shown → (w : Name) (ws : Workstation) → get (plan_shown clock shown).contents.workstations w ≡ Some ws → IsWorkstation ws
+-- the workstations of a source are legal
+pub legal_workstations : (clock : ℕ) (source : Option RowSource) → IsSourceIfAny source → (w : Name) (ws : Workstation) → get (plan_if_any clock source).contents.workstations w ≡ Some ws → IsWorkstation ws
 legal_workstations clock None is w ws at = nothing_at (get nothing.workstations w) ws (get-empty name_cmp w) at
 legal_workstations clock (Some s) is w ws at = (is.sound.valid.workstations w ws at).1

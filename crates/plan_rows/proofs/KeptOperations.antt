@@ -14,11 +14,11 @@ use Rattle.derived_figures.specs.plan_status.specs.declared.standings.Standing.{
 use Rattle.plan_model.specs.Contents.{Contents, Operation}
 use Rattle.plan_model.specs.Ready.{with_mark}
 use Rattle.plan_model.specs.Status.{HasStatus, UnmarkedStatus}
-use Rattle.plan_rows.proofs.ShownPlaces.{row_shown}
-use Rattle.plan_rows.proofs.ShownRows.{operation_at, operation_keys}
+use Rattle.plan_rows.proofs.KeyedRows.{keyed_row}
+use Rattle.plan_rows.proofs.SourceRows.{operation_at, operation_keys}
 use Rattle.plan_rows.specs.Kept.{AreKnownAlike, IsKeptIn, KeepsRecords, MarkGoesOn}
 use Rattle.plan_rows.specs.Rows.{keyed_operations, operation_row_of, rows_of}
-use Rattle.plan_rows.specs.Shown.{IsShown, shown_with}
+use Rattle.plan_rows.specs.Sources.{IsSource, source_with}
 use Rattle.plan_rows.specs.declared.columns.SourceColumns.{SourceColumns}
 use Rattle.row_differences.specs.Differences.{HaveOneKey}
 use Rattle.status_rules.specs.Table.{marked_status}
@@ -65,7 +65,7 @@ mark_stays P Q o before after s was is had has (inr (inr named)) =
 same_row : (q r : OperationRow) → row.Operation q ≡ row.Operation r → q ≡ r
 same_row q r e = cc
 
-module _ (P Q : Contents) (c d : SourceColumns) (shown : IsShown (shown_with P c)) (then : IsShown (shown_with Q d)) where
+module _ (P Q : Contents) (c d : SourceColumns) (source : IsSource (source_with P c)) (then : IsSource (source_with Q d)) where
   -- an operation that is kept, with what is known of it before and after
   module _ (keeps : KeepsRecords P Q) (i j : ℕ) (o : OpKey) (op after : Operation) (at : slice_get (entries P.operations) i ≡ Some (o, op)) (there : slice_get (entries Q.operations) j ≡ Some (o, after))
       (x y : Standing) (s t : Status) (v w : ℤ)
@@ -77,11 +77,11 @@ module _ (P Q : Contents) (c d : SourceColumns) (shown : IsShown (shown_with P c
     abbrev new : OperationRow
     new = operation_row_of ((o, after), (y, (t, w)))
 
-    old_at : slice_get (rows_of (keyed_operations (shown_with P c))) i ≡ Some (row.Operation old)
-    old_at = row_shown (keyed_operations (shown_with P c)) i o (row.Operation old) (operation_at (shown_with P c) shown i o op x s v at x_at s_at v_at)
+    old_at : slice_get (rows_of (keyed_operations (source_with P c))) i ≡ Some (row.Operation old)
+    old_at = keyed_row (keyed_operations (source_with P c)) i o (row.Operation old) (operation_at (source_with P c) source i o op x s v at x_at s_at v_at)
 
-    new_at : slice_get (rows_of (keyed_operations (shown_with Q d))) j ≡ Some (row.Operation new)
-    new_at = row_shown (keyed_operations (shown_with Q d)) j o (row.Operation new) (operation_at (shown_with Q d) then j o after y t w there y_at t_at w_at)
+    new_at : slice_get (rows_of (keyed_operations (source_with Q d))) j ≡ Some (row.Operation new)
+    new_at = keyed_row (keyed_operations (source_with Q d)) j o (row.Operation new) (operation_at (source_with Q d) then j o after y t w there y_at t_at w_at)
 
     was : get P.operations o ≡ Some op
     was = row_in operation_cmp_total operation_cmp-IsAntisymmetric P.operations i o op at
@@ -99,11 +99,11 @@ module _ (P Q : Contents) (c d : SourceColumns) (shown : IsShown (shown_with P c
     record_stays : s ≡ t → after ≡ op
     record_stays same =
         let goes = subst (λ (z : Operation). MarkGoesOn op.mark z.mark) (sym remarked) kept.2 in
-        let stays : after.mark ≡ op.mark = mark_stays P Q o op after s was is (shown.statuses.each i o op s at s_at) (subst (HasStatus Q o) (sym same) (then.statuses.each j o after t there t_at)) goes in
+        let stays : after.mark ≡ op.mark = mark_stays P Q o op after s was is (source.statuses.each i o op s at s_at) (subst (HasStatus Q o) (sym same) (then.statuses.each j o after t there t_at)) goes in
         let marked : kept.0 ≡ op.mark = ap (λ (z : Operation). z.mark) (sym remarked) ∙ stays in
         remarked ∙ ap (λ m. with_mark m op) marked
 
-    told : AreKnownAlike c d i j → slice_get (rows_of (keyed_operations (shown_with P c))) i ≡ slice_get (rows_of (keyed_operations (shown_with Q d))) j
+    told : AreKnownAlike c d i j → slice_get (rows_of (keyed_operations (source_with P c))) i ≡ slice_get (rows_of (keyed_operations (source_with Q d))) j
     told alike =
         let status : s ≡ t = same_Some s t (sym s_at ∙ alike.status ∙ t_at) in
         let start : v ≡ w = same_Some v w (sym v_at ∙ alike.start ∙ w_at) in
@@ -114,7 +114,7 @@ module _ (P Q : Contents) (c d : SourceColumns) (shown : IsShown (shown_with P c
         ∙ (λ k. record (operation_row_of ((o, after), (x, (s, v)))) { status = status k; latest = start k; waiting = waiting k }) in
         old_at ∙ ap (λ r. Some (row.Operation r)) same ∙ sym new_at
 
-    untold : slice_get (rows_of (keyed_operations (shown_with P c))) i ≡ slice_get (rows_of (keyed_operations (shown_with Q d))) j → AreKnownAlike c d i j
+    untold : slice_get (rows_of (keyed_operations (source_with P c))) i ≡ slice_get (rows_of (keyed_operations (source_with Q d))) j → AreKnownAlike c d i j
     untold rows =
         let same : old ≡ new = same_row old new (same_Some (row.Operation old) (row.Operation new) (sym old_at ∙ rows ∙ new_at)) in
         record {
@@ -124,17 +124,17 @@ module _ (P Q : Contents) (c d : SourceColumns) (shown : IsShown (shown_with P c
         }
 
   -- rows of one key are the same exactly where what is known is
-  pub rows_by_known : KeepsRecords P Q → (i j : ℕ) → HaveOneKey (keys_of (keyed_operations (shown_with P c))) (keys_of (keyed_operations (shown_with Q d))) i j
-      → AreKnownAlike c d i j ↔ (slice_get (rows_of (keyed_operations (shown_with P c))) i ≡ slice_get (rows_of (keyed_operations (shown_with Q d))) j)
+  pub rows_by_known : KeepsRecords P Q → (i j : ℕ) → HaveOneKey (keys_of (keyed_operations (source_with P c))) (keys_of (keyed_operations (source_with Q d))) i j
+      → AreKnownAlike c d i j ↔ (slice_get (rows_of (keyed_operations (source_with P c))) i ≡ slice_get (rows_of (keyed_operations (source_with Q d))) j)
   rows_by_known keeps i j one =
       let (o, first, second) = one in
-      let (op, at) = row_of_key (entries P.operations) i o (subst (λ ks. slice_get ks i ≡ Some o) (operation_keys (shown_with P c) shown) first) in
-      let (after, there) = row_of_key (entries Q.operations) j o (subst (λ ks. slice_get ks j ≡ Some o) (operation_keys (shown_with Q d) then) second) in
+      let (op, at) = row_of_key (entries P.operations) i o (subst (λ ks. slice_get ks i ≡ Some o) (operation_keys (source_with P c) source) first) in
+      let (after, there) = row_of_key (entries Q.operations) j o (subst (λ ks. slice_get ks j ≡ Some o) (operation_keys (source_with Q d) then) second) in
       let within = slice_get_within (entries P.operations) i (o, op) at in
       let below = slice_get_within (entries Q.operations) j (o, after) there in
-      let x = row_at c.standings.now i (omega (arith, within, shown.standings.size)) in
-      let s = row_at c.statuses.now i (omega (arith, within, shown.statuses.size)) in
-      let v = row_at c.latest.now.starts i (omega (arith, within, shown.latest.size)) in
+      let x = row_at c.standings.now i (omega (arith, within, source.standings.size)) in
+      let s = row_at c.statuses.now i (omega (arith, within, source.statuses.size)) in
+      let v = row_at c.latest.now.starts i (omega (arith, within, source.latest.size)) in
       let y = row_at d.standings.now j (omega (arith, below, then.standings.size)) in
       let t = row_at d.statuses.now j (omega (arith, below, then.statuses.size)) in
       let w = row_at d.latest.now.starts j (omega (arith, below, then.latest.size)) in (

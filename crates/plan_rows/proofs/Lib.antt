@@ -2,8 +2,8 @@ pub mod SideBySide
 mod OneMore
 mod KeptRows
 mod TableRows
-pub mod ShownRows
-mod ShownPlaces
+pub mod SourceRows
+mod KeyedRows
 pub mod NoRows
 mod BothKeys
 mod WithinRows

@@ -8,16 +8,16 @@ use Rattle.plan_records.specs.Rows.{key_of, row_cmp}
 use Rattle.plan_records.specs.declared.PlanRow.{PlanRow}
 use Rattle.plan_records.specs.declared.PlanRow.TheVariants as row
 use Rattle.plan_rows.proofs.NoRows.{none_ascend}
-use Rattle.plan_rows.specs.Shown.{plan_shown}
+use Rattle.plan_rows.specs.Sources.{plan_if_any}
 use Rattle.plan_rows.specs.Tables.{IsRowOf}
 use Rattle.plan_rows.specs.declared.row_sources.RowSource.{RowSource}
 use Rattle.row_differences.specs.Changes.{AreAt, AreRowChanges, HasRowOf}
 
-pub loaded_where_shown : (clock : ℕ) (shown : Option RowSource) → (plan_shown clock shown).loaded ≡ is_some shown
-loaded_where_shown clock None = refl
-loaded_where_shown clock (Some s) = refl
+pub loaded_if_any : (clock : ℕ) (source : Option RowSource) → (plan_if_any clock source).loaded ≡ is_some source
+loaded_if_any clock None = refl
+loaded_if_any clock (Some s) = refl
 
-pub clock_of_plan : (clock : ℕ) (shown : Option RowSource) → (plan_shown clock shown).clock ≡ clock
+pub clock_of_plan : (clock : ℕ) (source : Option RowSource) → (plan_if_any clock source).clock ≡ clock
 clock_of_plan clock None = refl
 clock_of_plan clock (Some s) = refl
 

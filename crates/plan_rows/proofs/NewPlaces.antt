@@ -23,7 +23,7 @@ use Rattle.plan_model.proofs.Members.{if_member, in_keys, member_if}
 use Rattle.plan_model.specs.Contents.{Contents, Operation, nothing}
 use Rattle.plan_rows.proofs.NoRows.{none_kept}
 use Rattle.plan_rows.specs.Kept.{AreNewPlaces, IsNewAt, KeepsRecords}
-use Rattle.plan_rows.specs.Shown.{contents_shown, source_if_any}
+use Rattle.plan_rows.specs.Sources.{contents_if_any, source_if_any}
 use Rattle.plan_rows.specs.declared.row_sources.TableSource.{TableSource}
 use Rattle.row_differences.proofs.Picked.{picked_from, picks_ascend}
 use Rattle.row_differences.specs.Changes.{AreAt}
@@ -42,7 +42,7 @@ pub no_keys : keys nothing.operations ≡ []
 no_keys = keys_of-entries operation_cmp nothing.operations ∙ ap keys_of (sym (none_kept operation_cmp_total))
 
 -- where there is one, a plan is loaded
-pub some_key : (s : Option TableSource) (i : ℕ) → i < length (keys (contents_shown (source_if_any s)).operations) → is_some s ≡ true
+pub some_key : (s : Option TableSource) (i : ℕ) → i < length (keys (contents_if_any (source_if_any s)).operations) → is_some s ≡ true
 some_key None i lt = absurd (omega (arith, lt, ap length no_keys))
 some_key (Some t) i lt = refl
 

@@ -17,7 +17,7 @@ use Rattle.plan_records.specs.declared.PlanRow.{PlanRow}
 use Rattle.plan_rows.proofs.DifferentRows.{IsToldTo, all_differences, told_different, told_same}
 use Rattle.plan_rows.proofs.OneMore.{one_more_table, table_changes}
 use Rattle.plan_rows.proofs.PairedLists.{paired_at, paired_length}
-use Rattle.plan_rows.proofs.ShownPlaces.{rows_differ}
+use Rattle.plan_rows.proofs.KeyedRows.{rows_differ}
 use Rattle.plan_rows.specs.Notes.{AreNotedAt, AreWithin, IsNotedAt, AreNotedFacilities, NotesFacilities}
 use Rattle.plan_rows.specs.Tables.{AreChangesBelow, AreRowsOf}
 use Rattle.plan_rows.specs.Touched.{AreDifferentAmong, KeepsQuantities, IsFacilityChange}

@@ -1,4 +1,4 @@
--- The rows of the table of quantities for the plan that is shown.
+-- The rows of the table of quantities for the plan of a source.
 use Rattle.std.proofs.Common.{◌≡◌, ◌==◌, ◌≢◌, refl, sym, subst, ap, ◌∙◌, ℕ, Bool, true, false, cond, List, map, Contains, Some, None}
 use Rattle.std.proofs.lemmas.Bool.{eqb-false, eqb-true, false_from_ne_true}
 use Rattle.std.proofs.lemmas.Option.{none-some, same_Some}

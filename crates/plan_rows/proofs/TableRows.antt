@@ -1,4 +1,4 @@
--- The rows of each table for the plan that is shown.
+-- The rows of each table for the plan of a source.
 use Rattle.std.proofs.Common.{◌≡◌, refl, sym, subst, ap, ◌∙◌, List, [], ◌∷◌, map, Contains, Option, Some, None, option_map}
 use Rattle.std.specs.FinMap.{entries, get}
 use Rattle.std.specs.FinSet as set

@@ -21,7 +21,7 @@ use Rattle.plan_rows.proofs.NoRows.{contents_of_plan, none_ascend}
 use Rattle.plan_rows.proofs.OneMore.{one_more_table}
 use Rattle.plan_rows.proofs.TableRows.{are_resources, are_workstations}
 use Rattle.plan_rows.specs.Rows.{workstation_row, resource_row}
-use Rattle.plan_rows.specs.Shown.{contents_shown, plan_shown}
+use Rattle.plan_rows.specs.Sources.{contents_if_any, plan_if_any}
 use Rattle.plan_rows.specs.Tables.{AreChangesBelow, AreRowsOf, IsRowOf}
 use Rattle.plan_rows.specs.Touched.{AreMovedAmong, KeepsQuantities}
 use Rattle.plan_rows.specs.declared.row_sources.RowSource.{RowSource}
@@ -91,34 +91,34 @@ quantity_kept P Q keeps r (is, e) = absurd (cc)
 
 module _ (clock now : ℕ) (before after : Option RowSource) (c : Changes) where
   abbrev P : Plan
-  P = plan_shown clock before
+  P = plan_if_any clock before
 
   abbrev Q : Plan
-  Q = plan_shown now after
+  Q = plan_if_any now after
 
-  pub intervals_stay : (contents_shown after).workstations ≡ (contents_shown before).workstations → AreChangesBelow 2 P Q c → AreChangesBelow 3 P Q c
+  pub intervals_stay : (contents_if_any after).workstations ≡ (contents_if_any before).workstations → AreChangesBelow 2 P Q c → AreChangesBelow 3 P Q c
   intervals_stay e so_far =
       let same : Q.contents.workstations ≡ P.contents.workstations = ap (λ C. C.workstations) (sym (contents_of_plan now after)) ∙ (e ∙ ap (λ C. C.workstations) (contents_of_plan clock before)) in
       table_stays 2 P Q (λ r. (intervals_kept P Q (sym same) r, intervals_kept Q P same r)) c so_far
 
-  pub resources_stay : (contents_shown after).resources ≡ (contents_shown before).resources → AreChangesBelow 3 P Q c → AreChangesBelow 4 P Q c
+  pub resources_stay : (contents_if_any after).resources ≡ (contents_if_any before).resources → AreChangesBelow 3 P Q c → AreChangesBelow 4 P Q c
   resources_stay e so_far =
       let same : Q.contents.resources ≡ P.contents.resources = ap (λ C. C.resources) (sym (contents_of_plan now after)) ∙ (e ∙ ap (λ C. C.resources) (contents_of_plan clock before)) in
       table_stays 3 P Q (same_rows 3 P Q _ _ _ _ (are_resources P _ refl) (are_resources Q _ refl) (ap (λ resources. map resource_row (entries resources)) same)) c so_far
 
-  pub dependencies_stay : (contents_shown after).pairs ≡ (contents_shown before).pairs → AreChangesBelow 6 P Q c → AreChangesBelow 7 P Q c
+  pub dependencies_stay : (contents_if_any after).pairs ≡ (contents_if_any before).pairs → AreChangesBelow 6 P Q c → AreChangesBelow 7 P Q c
   dependencies_stay e so_far =
       let same : Q.contents.pairs ≡ P.contents.pairs = ap (λ C. C.pairs) (sym (contents_of_plan now after)) ∙ (e ∙ ap (λ C. C.pairs) (contents_of_plan clock before)) in
       table_stays 6 P Q (λ r. (dependencies_kept P Q (sym same) r, dependencies_kept Q P same r)) c so_far
 
-  pub quantities_stay : KeepsQuantities (contents_shown before) (contents_shown after) → AreChangesBelow 8 P Q c → AreChangesBelow 9 P Q c
+  pub quantities_stay : KeepsQuantities (contents_if_any before) (contents_if_any after) → AreChangesBelow 8 P Q c → AreChangesBelow 9 P Q c
   quantities_stay keeps so_far =
-      let same : KeepsQuantities P.contents Q.contents = subst (KeepsQuantities P.contents) (contents_of_plan now after) (subst (λ C. KeepsQuantities C (contents_shown after)) (contents_of_plan clock before) keeps) in
+      let same : KeepsQuantities P.contents Q.contents = subst (KeepsQuantities P.contents) (contents_of_plan now after) (subst (λ C. KeepsQuantities C (contents_if_any after)) (contents_of_plan clock before) keeps) in
       table_stays 8 P Q (λ r. (quantity_kept P Q same r, quantity_kept Q P (λ n. sym (same n)) r)) c so_far
 
-  module _ (touched : List ℕ) (h : AreMovedAmong (contents_shown before) (contents_shown after) touched) where
+  module _ (touched : List ℕ) (h : AreMovedAmong (contents_if_any before) (contents_if_any after) touched) where
     moved : AreMovedAmong P.contents Q.contents touched
-    moved = subst (λ C. AreMovedAmong P.contents C touched) (contents_of_plan now after) (subst (λ C. AreMovedAmong C (contents_shown after) touched) (contents_of_plan clock before) h)
+    moved = subst (λ C. AreMovedAmong P.contents C touched) (contents_of_plan now after) (subst (λ C. AreMovedAmong C (contents_if_any after) touched) (contents_of_plan clock before) h)
 
     pub workstations_stay : AreChangesBelow 1 P Q c → AreChangesBelow 2 P Q c
     workstations_stay so_far =

@@ -4,7 +4,7 @@ pub use Rattle.derived_figures.specs.plan_changes
 pub use Rattle.derived_figures.specs.plan_laws
 pub use Rattle.derived_figures.specs.plan_status
 pub use Rattle.derived_figures.specs.start_choice
-pub mod Shown
+pub mod Sources
 pub mod Kept
 pub mod Rows
 pub mod Tables

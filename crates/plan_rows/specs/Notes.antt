@@ -7,7 +7,7 @@ use Rattle.plan_records.specs.declared.Changes.{Changes}
 use Rattle.plan_records.specs.declared.PlanRow.{PlanRow}
 use Rattle.plan_records.specs.declared.PlanRow.TheVariants as row
 use Rattle.plan_rows.specs.Rows.{all_intervals, keyed_occurrences, keyed_operations, rows_of}
-use Rattle.plan_rows.specs.Shown.{IsShown, contents_shown}
+use Rattle.plan_rows.specs.Sources.{IsSource, contents_if_any}
 use Rattle.plan_rows.specs.Tables.{AddsChanges}
 use Rattle.plan_rows.specs.Touched.{AreOccurrencesOf, AreTouched, KeepsQuantities, IsFacilityChange}
 use Rattle.plan_rows.specs.declared.noted_rows.NotedRow.{NotedRow}
@@ -30,16 +30,16 @@ AreNotedAt rows places notes = AllZip (IsNotedAt rows) places notes
 abbrev pub AreWithin : ℕ → List NotedRow → Type 0
 AreWithin n notes = (note : NotedRow) → Contains notes note → note.place < n
 
--- from notes of the occurrences of the touched operations, as they are in any plan that may follow the one that is shown, d has what changes in their table beside what c has
+-- from notes of the occurrences of the touched operations, as they are in any plan that may follow that of the source, d has what changes in their table beside what c has
 abbrev pub AddsNotedOccurrences : {E : Type 0} → RowSource → List NotedRow → Result (Unit {0}) E → Changes → Changes → Type 0
 AddsNotedOccurrences s notes r c d = (after : RowSource) (touched places : List ℕ)
-    → IsShown after → AreTouched (Some s) (Some after) touched → AreOccurrencesOf after.contents.now touched places
+    → IsSource after → AreTouched (Some s) (Some after) touched → AreOccurrencesOf after.contents.now touched places
     → AreNotedAt (rows_of (keyed_occurrences after)) places notes → AddsChanges 4 5 (Some s) (Some after) r c d
 
 -- so from notes of the touched operations themselves
 abbrev pub AddsNotedOperations : {E : Type 0} → RowSource → List NotedRow → Result (Unit {0}) E → Changes → Changes → Type 0
 AddsNotedOperations s notes r c d = (after : RowSource) (touched : List ℕ)
-    → IsShown after → AreTouched (Some s) (Some after) touched
+    → IsSource after → AreTouched (Some s) (Some after) touched
     → AreNotedAt (rows_of (keyed_operations after)) touched notes → AddsChanges 5 6 (Some s) (Some after) r c d
 
 -- it has the table that may differ beside operations, if one may
@@ -69,11 +69,11 @@ is_operation _ = false
 -- they were noted of a plan that holds Q, and no more differs between the plan before and that one than what they note
 pub record IsNotedStep (before : Option RowSource) (Q : Contents) (notes : Notes) : Type 0 where
   pub after : RowSource
-  pub shown : IsShown after
+  pub source : IsSource after
   pub holds : after.contents.now ≡ Q
   pub facilities : FacilityChange
   pub touched : List ℕ
-  pub stays : IsFacilityChange facilities (contents_shown before) after.contents.now
+  pub stays : IsFacilityChange facilities (contents_if_any before) after.contents.now
   pub among : AreTouched before (Some after) touched
   pub noted : AreNotes after facilities touched notes
 

@@ -13,7 +13,7 @@ use Rattle.plan_model.specs.declared.Stock.{Stock}
 use Rattle.plan_records.specs.declared.OperationRow.{OperationRow}
 use Rattle.plan_records.specs.declared.PlanRow.{PlanRow}
 use Rattle.plan_records.specs.declared.PlanRow.TheVariants as row
-use Rattle.plan_rows.specs.Shown.{Known, known_of}
+use Rattle.plan_rows.specs.Sources.{Known, known_of}
 use Rattle.plan_rows.specs.declared.row_sources.RowSource.{RowSource}
 use Rattle.special_resources.specs.Needs.{need_of}
 use Rattle.special_resources.specs.declared.Mode.{Mode}
@@ -86,7 +86,7 @@ amount_by Shared x = cond (x.1.amount == 1) None (Some (row.Amount x.0 x.1.name 
 abbrev pub amount_row : OpKey × Need → Option PlanRow
 amount_row x = amount_by x.1.mode x
 
--- all occurrences of the plan that is shown, each under its key
+-- all occurrences of a source, each under its key
 abbrev pub keyed_occurrences : RowSource → List (OccKey × PlanRow)
 keyed_occurrences s = map keyed_occurrence (zip (entries s.contents.now.occurrences) s.tallies.now)
 
@@ -94,10 +94,10 @@ keyed_occurrences s = map keyed_occurrence (zip (entries s.contents.now.occurren
 abbrev pub keyed_operations : RowSource → List (OpKey × PlanRow)
 keyed_operations s = map keyed_operation (zip (entries s.contents.now.operations) (known_of s))
 
--- those of the plan that is shown, if one is
-abbrev pub if_shown : {K : Type 0} → (RowSource → List (K × PlanRow)) → Option RowSource → List (K × PlanRow)
-if_shown rows None = []
-if_shown rows (Some s) = rows s
+-- those of a source, if there is one
+abbrev pub if_any : {K : Type 0} → (RowSource → List (K × PlanRow)) → Option RowSource → List (K × PlanRow)
+if_any rows None = []
+if_any rows (Some s) = rows s
 
 -- the rows without their keys
 abbrev pub rows_of : {K : Type 0} → List (K × PlanRow) → List PlanRow

@@ -5,7 +5,7 @@ use Rattle.plan_model.specs.Plan.{Plan}
 use Rattle.plan_records.specs.Rows.{IsRow, key_of, row_cmp, table_of}
 use Rattle.plan_records.specs.declared.Changes.{Changes}
 use Rattle.plan_records.specs.declared.PlanRow.{PlanRow}
-use Rattle.plan_rows.specs.Shown.{plan_shown}
+use Rattle.plan_rows.specs.Sources.{plan_if_any}
 use Rattle.plan_rows.specs.declared.row_sources.RowSource.{RowSource}
 use Rattle.row_differences.specs.Changes.{AreRowChanges}
 
@@ -21,9 +21,9 @@ IsRowBelow n P r = IsRow P r × (table_of (key_of r) < n)
 abbrev pub AreChangesBelow : ℕ → Plan → Plan → Changes → Type 0
 AreChangesBelow n P Q c = AreRowChanges row_cmp key_of (IsRowBelow n P) (IsRowBelow n Q) c.rows.items c.gone.items
 
--- if c is what changes in the tables below n from the one plan that is shown to the other, at whatever clocks, then, where the result is Ok, d is what changes in those below m
+-- if c is what changes in the tables below n from the plan of the one source to that of the other, at whatever clocks, then, where the result is Ok, d is what changes in those below m
 abbrev pub AddsChanges : {E : Type 0} → ℕ → ℕ → Option RowSource → Option RowSource → Result (Unit {0}) E → Changes → Changes → Type 0
-AddsChanges n m before after r c d = (clock now : ℕ) → AreChangesBelow n (plan_shown clock before) (plan_shown now after) c → OnOk r (AreChangesBelow m (plan_shown clock before) (plan_shown now after) d)
+AddsChanges n m before after r c d = (clock now : ℕ) → AreChangesBelow n (plan_if_any clock before) (plan_if_any now after) c → OnOk r (AreChangesBelow m (plan_if_any clock before) (plan_if_any now after) d)
 
 -- these are the rows of the table of this number, under these keys
 pub record AreRowsOf {K : Type 0} (name : K → RowKey) (n : ℕ) (P : Plan) (keys : List K) (rows : List PlanRow) : Type 0 where

@@ -1,4 +1,4 @@
--- What may differ from one plan that is shown to the next where some of its operations were touched, and no others.
+-- What may differ from the plan of one source to that of the next where some of its operations were touched, and no others.
 use Rattle.std.specs.Prelude.{◌≡◌, ◌≢◌, ◌↔◌, ◌<◌, ℕ, List, [], length, slice_get, Contains, Option, Some, None, option_map}
 use Rattle.std.specs.FinMap.{entries, get}
 use Rattle.std.specs.List.Sorted.{IsStrictlySortedBy}
@@ -8,21 +8,21 @@ use Rattle.plan_basics.specs.declared.keys.OpKey.{OpKey}
 use Rattle.plan_model.specs.Contents.{Contents, Operation}
 use Rattle.plan_model.specs.declared.Occurrence.{Occurrence}
 use Rattle.plan_model.specs.Moves.{IsRemarkedAt}
-use Rattle.plan_rows.specs.Shown.{contents_shown, Known, known_of}
+use Rattle.plan_rows.specs.Sources.{contents_if_any, Known, known_of}
 use Rattle.plan_rows.specs.declared.row_sources.RowSource.{RowSource}
 use Rattle.plan_rows.specs.declared.notes.FacilityChange.{FacilityChange}
 use Rattle.plan_rows.specs.declared.notes.FacilityChange.TheVariants as facilities
 use Rattle.status_rules.specs.declared.Counts.{Counts}
 
--- what is known of each operation that is shown
-abbrev pub known_shown : Option RowSource → List Known
-known_shown None = []
-known_shown (Some s) = known_of s
+-- what is known of each operation of a source, if there is one
+abbrev pub known_if_any : Option RowSource → List Known
+known_if_any None = []
+known_if_any (Some s) = known_of s
 
--- the numbers of each occurrence that is shown
-abbrev pub tallies_shown : Option RowSource → List Counts
-tallies_shown None = []
-tallies_shown (Some s) = s.tallies.now
+-- the numbers of each occurrence of a source, if there is one
+abbrev pub tallies_if_any : Option RowSource → List Counts
+tallies_if_any None = []
+tallies_if_any (Some s) = s.tallies.now
 
 -- the operation at i belongs to the occurrence at p
 pub record BelongsAt (P : Contents) (i p : ℕ) : Type 0 where
@@ -49,11 +49,11 @@ pub record AreMovedAmong (P Q : Contents) (touched : List ℕ) : Type 0 where
 
 -- no more was touched than the operations at these places, and what follows from them for their occurrences
 pub record AreTouched (before after : Option RowSource) (touched : List ℕ) : Type 0 where
-  pub moved : AreMovedAmong (contents_shown before) (contents_shown after) touched
+  pub moved : AreMovedAmong (contents_if_any before) (contents_if_any after) touched
   pub ascend : IsStrictlySortedBy nat_cmp touched
-  pub within : (i : ℕ) → Contains touched i → i < length (entries (contents_shown before).operations)
-  pub known : (i : ℕ) → ¬ Contains touched i → slice_get (known_shown after) i ≡ slice_get (known_shown before) i
-  pub tallies : (i : ℕ) → ¬ HasOneOf (contents_shown before) touched i → slice_get (tallies_shown after) i ≡ slice_get (tallies_shown before) i
+  pub within : (i : ℕ) → Contains touched i → i < length (entries (contents_if_any before).operations)
+  pub known : (i : ℕ) → ¬ Contains touched i → slice_get (known_if_any after) i ≡ slice_get (known_if_any before) i
+  pub tallies : (i : ℕ) → ¬ HasOneOf (contents_if_any before) touched i → slice_get (tallies_if_any after) i ≡ slice_get (tallies_if_any before) i
 
 -- there is as much of each special resource
 abbrev pub KeepsQuantities : Contents → Contents → Type 0

@@ -5,7 +5,7 @@ ghost use Rattle.std.specs.List.Sorted.{IsStrictlySortedBy};
 ghost use Rattle.plan_records.specs.Rows.{AreChanges, AreRows, key_of, row_cmp};
 ghost use Rattle.plan_model.specs.Plan.{plan_held};
 ghost use Rattle.plan_rows.specs.Kept.{AreNewNeeds, KeepsRecords};
-ghost use Rattle.plan_rows.specs.Shown.{IsShown, IsShownIfAny, contents_shown, plan_shown, shown_with, source_if_any, source_of};
+ghost use Rattle.plan_rows.specs.Sources.{IsSource, IsSourceIfAny, contents_if_any, plan_if_any, source_with, source_if_any, source_of};
 ghost use Rattle.plan_rows.specs.Tables.{AddsChanges};
 
 use super::columns::SourceColumns;
@@ -32,8 +32,8 @@ fn push_stations(
     after: TableSource<'_>,
     changes: &mut Changes,
 ) -> Result<(), AllocError>
-    requires before { IsShownIfAny (source_if_any before) }
-    requires after { IsShown (source_of after) }
+    requires before { IsSourceIfAny (source_if_any before) }
+    requires after { IsSource (source_of after) }
     ensures { AddsChanges 1 4 (source_if_any before.entry) (Some (source_of after.entry)) result changes.old changes.new }
 {
     push_workstations(alloc, before, Some(after), changes)?;
@@ -50,8 +50,8 @@ fn push_links(
     needs: &[(OpKey, Need)],
     changes: &mut Changes,
 ) -> Result<(), AllocError>
-    requires kept { KeepsRecords (contents_shown (source_if_any before)) after.uncounted.contents.now }
-    requires needs { AreNewNeeds (contents_shown (source_if_any before)) after.uncounted.contents.now needs.now }
+    requires kept { KeepsRecords (contents_if_any (source_if_any before)) after.uncounted.contents.now }
+    requires needs { AreNewNeeds (contents_if_any (source_if_any before)) after.uncounted.contents.now needs.now }
     ensures { AddsChanges 6 10 (source_if_any before.entry) (Some (source_of after.entry)) result changes.old changes.new }
 {
     push_dependencies(alloc, before, Some(after), changes)?;
@@ -60,53 +60,53 @@ fn push_links(
     push_amounts(needs, changes)
 }
 
-/// Which rows of the tables change from the plan before to what is shown at this clock, which keeps the operations of that. It takes a
+/// Which rows of the tables change from the plan before to that of these records at this clock, which keeps its operations. It takes a
 /// look at each operation whose row is told, and one at each that there wasn't, for its needs.
 pub fn changes_between(
     alloc: Global,
     before: &PlanBefore<'_>,
-    shown: &mut CountedRecords,
+    records: &mut CountedRecords,
     columns: SourceColumns<'_>,
     clock: Moment,
 ) -> Result<Changes, AllocError>
-    requires before { IsShownIfAny (source_if_any before.now.loaded) }
-    requires shown { IsShown (shown_with shown.old.contents columns) }
-    requires kept { KeepsRecords (contents_shown (source_if_any before.now.loaded)) shown.old.contents }
-    ensures changes { IfOk result (λ c. AreChanges (plan_shown before.now.clock (source_if_any before.now.loaded)) (plan_held clock (Some shown.old.contents)) c.rows.items c.gone.items) }
-    ensures contents { shown.new.contents ≡ shown.old.contents }
-    ensures fewest { shown.old.looks ≤ shown.new.looks }
-    ensures most { IfOk result (λ c. shown.new.looks + length (entries (contents_shown (source_if_any before.now.loaded)).operations) ≤ shown.old.looks + 2 * length (entries shown.old.contents.operations)) }
+    requires before { IsSourceIfAny (source_if_any before.now.loaded) }
+    requires source { IsSource (source_with records.old.contents columns) }
+    requires kept { KeepsRecords (contents_if_any (source_if_any before.now.loaded)) records.old.contents }
+    ensures changes { IfOk result (λ c. AreChanges (plan_if_any before.now.clock (source_if_any before.now.loaded)) (plan_held clock (Some records.old.contents)) c.rows.items c.gone.items) }
+    ensures contents { records.new.contents ≡ records.old.contents }
+    ensures fewest { records.old.looks ≤ records.new.looks }
+    ensures most { IfOk result (λ c. records.new.looks + length (entries (contents_if_any (source_if_any before.now.loaded)).operations) ≤ records.old.looks + 2 * length (entries records.old.contents.operations)) }
 {
     let old = before.loaded;
     let mut changes = meta_changes(alloc, before, clock)?;
-    let uncounted = shown.uncounted();
+    let uncounted = records.uncounted();
     push_stations(alloc, old, TableSource { uncounted, columns }, &mut changes)?;
-    push_occurrences(alloc, old, shown, columns, &mut changes)?;
-    push_operations(alloc, old, shown, columns, &mut changes)?;
-    let needs = new_needs(alloc, old, shown)?;
-    let uncounted = shown.uncounted();
+    push_occurrences(alloc, old, records, columns, &mut changes)?;
+    push_operations(alloc, old, records, columns, &mut changes)?;
+    let needs = new_needs(alloc, old, records)?;
+    let uncounted = records.uncounted();
     let new = TableSource { uncounted, columns };
     push_links(alloc, old, new, &needs, &mut changes)?;
     Ok(changes)
 }
 
-/// All rows of what is shown as a loaded plan at this clock, in key order: two looks at each operation.
+/// All rows of these records as a loaded plan at this clock, in key order: two looks at each operation.
 pub fn rows_of(
     alloc: Global,
-    shown: &mut CountedRecords,
+    records: &mut CountedRecords,
     columns: SourceColumns<'_>,
     clock: Moment,
 ) -> Result<Vec<PlanRow>, AllocError>
-    requires { IsShown (shown_with shown.old.contents columns) }
-    ensures rows { IfOk result (λ v. AreRows (plan_held clock (Some shown.old.contents)) v.items) }
+    requires { IsSource (source_with records.old.contents columns) }
+    ensures rows { IfOk result (λ v. AreRows (plan_held clock (Some records.old.contents)) v.items) }
     ensures in_order { IfOk result (λ v. IsStrictlySortedBy row_cmp (map key_of v.items)) }
-    ensures contents { shown.new.contents ≡ shown.old.contents }
-    ensures fewest { shown.old.looks ≤ shown.new.looks }
-    ensures most { IfOk result (λ v. shown.new.looks ≤ shown.old.looks + 2 * length (entries shown.old.contents.operations)) }
+    ensures contents { records.new.contents ≡ records.old.contents }
+    ensures fewest { records.old.looks ≤ records.new.looks }
+    ensures most { IfOk result (λ v. records.new.looks ≤ records.old.looks + 2 * length (entries records.old.contents.operations)) }
 {
     let nothing = PlanBefore {
         clock,
         loaded: None,
     };
-    Ok(changes_between(alloc, &nothing, shown, columns, clock)?.rows)
+    Ok(changes_between(alloc, &nothing, records, columns, clock)?.rows)
 }

@@ -2,7 +2,7 @@
 ghost use Rattle.plan_model.specs.Contents.{Contents};
 ghost use Rattle.plan_model.specs.Valid.{IsSound};
 ghost use Rattle.derived_figures.specs.DerivedRefs.{AreDerivedOf};
-ghost use Rattle.plan_rows.specs.Shown.{IsShown, shown_with};
+ghost use Rattle.plan_rows.specs.Sources.{IsSource, source_with};
 
 use derived_figures::{DerivedRefs, Standing};
 use plan_model::Latest;
@@ -19,7 +19,7 @@ pub struct SourceColumns<'a> {
 
 /// What is known of each operation and of each occurrence, of what is kept of a plan.
 pub fn columns_of<'a>(derived: DerivedRefs<'a>) -> SourceColumns<'a>
-    ensures { (P : Contents) → IsSound P → AreDerivedOf P derived.entry → IsShown (shown_with P result) }
+    ensures { (P : Contents) → IsSound P → AreDerivedOf P derived.entry → IsSource (source_with P result) }
 {
     let figures = derived.figures;
     SourceColumns {

@@ -3,7 +3,7 @@ ghost use Rattle.std.specs.Prelude.{◌≡◌, ◌↔◌, ◌<◌, List, Some, l
 ghost use Rattle.plan_records.specs.plan_drafts.specs.declared.RowKey.TheVariants as key;
 ghost use Rattle.plan_rows.specs.Alike.{pair_exact};
 ghost use Rattle.plan_rows.specs.Rows.{dependency_row};
-ghost use Rattle.plan_rows.specs.Shown.{source_if_any};
+ghost use Rattle.plan_rows.specs.Sources.{source_if_any};
 ghost use Rattle.plan_rows.specs.Tables.{AddsChanges};
 
 use super::row_sources::TableSource;

@@ -7,7 +7,7 @@ ghost use Rattle.plan_basics.specs.Keys.{name_cmp};
 ghost use Rattle.plan_records.specs.plan_drafts.specs.declared.RowKey.TheVariants as key;
 ghost use Rattle.plan_rows.specs.Alike.{interval_alike, interval_key_cmp, interval_key_exact};
 ghost use Rattle.plan_rows.specs.Rows.{all_intervals, interval_row, intervals_within, under_both};
-ghost use Rattle.plan_rows.specs.Shown.{IsShownIfAny, contents_shown, source_if_any};
+ghost use Rattle.plan_rows.specs.Sources.{IsSourceIfAny, contents_if_any, source_if_any};
 ghost use Rattle.plan_rows.specs.Tables.{AddsChanges};
 ghost use Rattle.plan_rows.specs.declared.row_sources.RowSource.{RowSource as RowSourceValue};
 
@@ -82,7 +82,7 @@ pub fn push_noted_intervals(
 ) -> Result<(), AllocError>
     requires before { IsStrictlySortedBy name_cmp (keys_of before.now) }
     requires in_order { IsStrictlySortedBy interval_key_cmp (keys_of after.now) }
-    ensures { (was shown : Option RowSourceValue) → IsShownIfAny was → IsShownIfAny shown → before.now ≡ entries (contents_shown was).workstations → after.now ≡ all_intervals (entries (contents_shown shown).workstations) → AddsChanges 2 3 was shown result changes.old changes.new }
+    ensures { (was records : Option RowSourceValue) → IsSourceIfAny was → IsSourceIfAny records → before.now ≡ entries (contents_if_any was).workstations → after.now ≡ all_intervals (entries (contents_if_any records).workstations) → AddsChanges 2 3 was records result changes.old changes.new }
 {
     let old = intervals_of(alloc, before)?;
     push_changes(
@@ -102,8 +102,8 @@ pub fn push_intervals(
     after: Option<TableSource<'_>>,
     changes: &mut Changes,
 ) -> Result<(), AllocError>
-    requires before { IsShownIfAny (source_if_any before) }
-    requires after { IsShownIfAny (source_if_any after) }
+    requires before { IsSourceIfAny (source_if_any before) }
+    requires after { IsSourceIfAny (source_if_any after) }
     ensures { AddsChanges 2 3 (source_if_any before.entry) (source_if_any after.entry) result changes.old changes.new }
 {
     let new = intervals_of(alloc, workstations_of(after))?;

@@ -7,7 +7,7 @@ ghost use Rattle.plan_basics.specs.Keys.{name_cmp, name_cmp-IsAntisymmetric};
 ghost use Rattle.plan_model.specs.Plan.{Plan};
 ghost use Rattle.plan_records.specs.plan_drafts.specs.declared.RowKey.TheVariants as key;
 ghost use Rattle.plan_rows.specs.Rows.{resource_row};
-ghost use Rattle.plan_rows.specs.Shown.{source_if_any};
+ghost use Rattle.plan_rows.specs.Sources.{source_if_any};
 ghost use Rattle.plan_rows.specs.Tables.{AddsChanges, AreChangesBelow};
 
 use super::row_sources::TableSource;

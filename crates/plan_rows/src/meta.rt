@@ -2,7 +2,7 @@
 ghost use Rattle.std.specs.Prelude.{◌≡◌, ◌↔◌, ◌++◌, ◌∷◌, [], IsTrue, IfOk, OnOk, Some, is_some};
 ghost use Rattle.plan_model.specs.Plan.{Plan};
 ghost use Rattle.plan_records.specs.declared.PlanRow.TheVariants as row;
-ghost use Rattle.plan_rows.specs.Shown.{plan_shown, source_if_any};
+ghost use Rattle.plan_rows.specs.Sources.{plan_if_any, source_if_any};
 ghost use Rattle.plan_rows.specs.Tables.{AreChangesBelow};
 ghost use Rattle.plan_rows.specs.declared.row_sources.RowSource.{RowSource};
 
@@ -61,10 +61,10 @@ pub fn push_meta(
 }
 
 // Whether a plan is loaded.
-fn is_loaded(shown: Option<TableSource<'_>>) -> bool
-    ensures { result ≡ is_some (source_if_any shown.entry) }
+fn is_loaded(source: Option<TableSource<'_>>) -> bool
+    ensures { result ≡ is_some (source_if_any source.entry) }
 {
-    match shown {
+    match source {
         Some(_) => true,
         None => false,
     }
@@ -76,7 +76,7 @@ pub fn meta_changes(
     before: &PlanBefore<'_>,
     clock: Moment,
 ) -> Result<Changes, AllocError>
-    ensures { (after : RowSource) → IfOk result (AreChangesBelow 1 (plan_shown before.now.clock (source_if_any before.now.loaded)) (plan_shown clock (Some after))) }
+    ensures { (after : RowSource) → IfOk result (AreChangesBelow 1 (plan_if_any before.now.clock (source_if_any before.now.loaded)) (plan_if_any clock (Some after))) }
 {
     let mut changes = Changes {
         rows: Vec::new(alloc),

@@ -6,7 +6,7 @@ ghost use Rattle.plan_model.specs.Contents.{Operation};
 ghost use Rattle.plan_model.specs.Plan.{Plan};
 ghost use Rattle.plan_rows.specs.Kept.{AreNewNeeds, KeepsRecords};
 ghost use Rattle.plan_rows.specs.Rows.{amount_row, need_row, needs_listed};
-ghost use Rattle.plan_rows.specs.Shown.{IsShownIfAny, contents_shown, source_if_any};
+ghost use Rattle.plan_rows.specs.Sources.{IsSourceIfAny, contents_if_any, source_if_any};
 ghost use Rattle.plan_rows.specs.Tables.{AreChangesBelow};
 
 use super::new_places::new_places;
@@ -56,38 +56,38 @@ fn push_needs_of(op: OpKey, needs: &[Need], all: &mut Vec<(OpKey, Need)>) -> Res
 
 // Adds the needs of the operation at a place: a look.
 fn push_needs_at(
-    shown: &mut CountedRecords,
+    records: &mut CountedRecords,
     place: usize,
     all: &mut Vec<(OpKey, Need)>,
 ) -> Result<(), AllocError>
-    requires { place < length (entries shown.old.contents.operations) }
-    ensures needs { (o : OpKeyValue) (op : Operation) → slice_get (entries shown.old.contents.operations) place ≡ Some (o, op) → OnOk result (all.new.items ≡ all.old.items ++ needs_listed (o, op)) }
-    ensures contents { shown.new.contents ≡ shown.old.contents }
-    ensures fewest { shown.old.looks ≤ shown.new.looks }
-    ensures most { shown.new.looks ≤ shown.old.looks + 1 }
+    requires { place < length (entries records.old.contents.operations) }
+    ensures needs { (o : OpKeyValue) (op : Operation) → slice_get (entries records.old.contents.operations) place ≡ Some (o, op) → OnOk result (all.new.items ≡ all.old.items ++ needs_listed (o, op)) }
+    ensures contents { records.new.contents ≡ records.old.contents }
+    ensures fewest { records.old.looks ≤ records.new.looks }
+    ensures most { records.new.looks ≤ records.old.looks + 1 }
 {
-    let seen = shown.see(place);
+    let seen = records.see(place);
     push_needs_of(*seen.key, needs_of(seen.operation), all)
 }
 
-/// The needs of the operations that the plan before hasn't, where what is shown keeps those that it has: a look at each that
+/// The needs of the operations that the plan before hasn't, where these records keep those that it has: a look at each that
 /// there wasn't. They are by operation and then resource.
 pub fn new_needs(
     alloc: Global,
     before: Option<TableSource<'_>>,
-    shown: &mut CountedRecords,
+    records: &mut CountedRecords,
 ) -> Result<Vec<(OpKey, Need)>, AllocError>
-    requires before { IsShownIfAny (source_if_any before) }
-    requires kept { KeepsRecords (contents_shown (source_if_any before)) shown.old.contents }
-    ensures needs { IfOk result (λ v. AreNewNeeds (contents_shown (source_if_any before.entry)) shown.old.contents v.items) }
-    ensures contents { shown.new.contents ≡ shown.old.contents }
-    ensures fewest { shown.old.looks ≤ shown.new.looks }
-    ensures most { shown.new.looks + length (entries (contents_shown (source_if_any before.entry)).operations) ≤ shown.old.looks + length (entries shown.old.contents.operations) }
+    requires before { IsSourceIfAny (source_if_any before) }
+    requires kept { KeepsRecords (contents_if_any (source_if_any before)) records.old.contents }
+    ensures needs { IfOk result (λ v. AreNewNeeds (contents_if_any (source_if_any before.entry)) records.old.contents v.items) }
+    ensures contents { records.new.contents ≡ records.old.contents }
+    ensures fewest { records.old.looks ≤ records.new.looks }
+    ensures most { records.new.looks + length (entries (contents_if_any (source_if_any before.entry)).operations) ≤ records.old.looks + length (entries records.old.contents.operations) }
 {
-    let places = new_places(alloc, before, &shown.uncounted())?;
+    let places = new_places(alloc, before, &records.uncounted())?;
     let mut needs = Vec::new(alloc);
     for place in &places {
-        push_needs_at(shown, *place, &mut needs)?;
+        push_needs_at(records, *place, &mut needs)?;
     }
     Ok(needs)
 }

@@ -2,7 +2,7 @@
 ghost use Rattle.std.specs.Prelude.{◌≡◌, ◌+◌, ◌<◌, ◌≤◌, ⊤, IfOk, Some, length, slice_get};
 ghost use Rattle.std.specs.FinMap.{entries, keys};
 ghost use Rattle.plan_rows.specs.Kept.{AreNewPlaces, KeepsRecords};
-ghost use Rattle.plan_rows.specs.Shown.{contents_shown, source_if_any};
+ghost use Rattle.plan_rows.specs.Sources.{contents_if_any, source_if_any};
 
 use super::row_sources::TableSource;
 use derived_figures::UncountedContents;
@@ -13,7 +13,7 @@ use std::cmp::Ordering;
 
 // How many operations there are; none where no plan is loaded.
 fn operation_count(source: Option<TableSource<'_>>) -> usize
-    ensures { result ≡ length (keys (contents_shown (source_if_any source.entry)).operations) }
+    ensures { result ≡ length (keys (contents_if_any (source_if_any source.entry)).operations) }
 {
     match source {
         Some(source) => source.uncounted.operation_count(),
@@ -31,8 +31,8 @@ fn key_at(uncounted: &UncountedContents<'_>, place: usize) -> OpKey
 
 // The key of the operation at a place, of a plan that is loaded since it has one.
 fn known_key_at(source: Option<TableSource<'_>>, place: usize) -> OpKey
-    requires { place < length (keys (contents_shown (source_if_any source)).operations) }
-    ensures { slice_get (keys (contents_shown (source_if_any source.entry)).operations) place ≡ Some result }
+    requires { place < length (keys (contents_if_any (source_if_any source)).operations) }
+    ensures { slice_get (keys (contents_if_any (source_if_any source.entry)).operations) place ≡ Some result }
 {
     key_at(&source.unwrap().uncounted, place)
 }
@@ -47,7 +47,7 @@ struct OperationKeys<'a, 'b> {
 impl<'a, 'b> TwoTables for OperationKeys<'a, 'b> {
     type Key = OpKey;
 
-    ghost before = { λ t. keys (contents_shown (source_if_any t.before)).operations };
+    ghost before = { λ t. keys (contents_if_any (source_if_any t.before)).operations };
 
     ghost after = { λ t. keys t.after.contents.now.operations };
 
@@ -76,9 +76,9 @@ pub fn new_places(
     before: Option<TableSource<'_>>,
     after: &UncountedContents<'_>,
 ) -> Result<Vec<usize>, AllocError>
-    requires { KeepsRecords (contents_shown (source_if_any before)) after.now.contents.now }
-    ensures places { IfOk result (λ places. AreNewPlaces (contents_shown (source_if_any before.entry)) after.now.contents.now places.items) }
-    ensures few { IfOk result (λ places. length places.items + length (entries (contents_shown (source_if_any before.entry)).operations) ≤ length (entries after.now.contents.now.operations)) }
+    requires { KeepsRecords (contents_if_any (source_if_any before)) after.now.contents.now }
+    ensures places { IfOk result (λ places. AreNewPlaces (contents_if_any (source_if_any before.entry)) after.now.contents.now places.items) }
+    ensures few { IfOk result (λ places. length places.items + length (entries (contents_if_any (source_if_any before.entry)).operations) ≤ length (entries after.now.contents.now.operations)) }
 {
     let keys = OperationKeys {
         before,

@@ -7,7 +7,7 @@ ghost use Rattle.plan_model.specs.Contents.{Contents};
 ghost use Rattle.plan_model.specs.Plan.{plan_held};
 ghost use Rattle.plan_records.specs.Rows.{AreChanges};
 ghost use Rattle.plan_rows.specs.Notes.{AreNotes, AreNotedFacilities, IsNotedStep, NotesFacilities, is_operation, operations_noted};
-ghost use Rattle.plan_rows.specs.Shown.{IsShown, shown_with};
+ghost use Rattle.plan_rows.specs.Sources.{IsSource, source_with};
 ghost use Rattle.plan_rows.specs.Tables.{AddsChanges};
 ghost use Rattle.plan_rows.specs.declared.row_sources.RowSource.{RowSource as RowSourceValue};
 
@@ -55,12 +55,12 @@ pub struct Notes {
 // Notes what may differ beside operations.
 fn note_facilities(
     alloc: Global,
-    shown: &CountedRecords,
+    records: &CountedRecords,
     facilities: FacilityChange,
 ) -> Result<NotedFacilities, AllocError>
-    ensures { IfOk result (AreNotedFacilities shown.now.contents facilities) }
+    ensures { IfOk result (AreNotedFacilities records.now.contents facilities) }
 {
-    let kept = shown.uncounted();
+    let kept = records.uncounted();
     match facilities {
         FacilityChange::Nothing => Ok(NotedFacilities::Nothing),
         FacilityChange::Resources => Ok(NotedFacilities::Resources(Vec::from_slice(
@@ -74,28 +74,28 @@ fn note_facilities(
     }
 }
 
-/// Notes the rows of a plan that is shown: those of the operations at these indices, which ascend, of their occurrences, and
+/// Notes rows of the plan of these records: those of the operations at these indices, which ascend, of their occurrences, and
 /// what may differ beside them. It takes a look at each of these operations.
 pub fn notes_of(
     alloc: Global,
-    shown: &mut CountedRecords,
+    records: &mut CountedRecords,
     columns: SourceColumns<'_>,
     facilities: FacilityChange,
     touched: &[usize],
 ) -> Result<Notes, AllocError>
-    requires shown { IsShown (shown_with shown.old.contents columns) }
+    requires source { IsSource (source_with records.old.contents columns) }
     requires ascend { IsStrictlySortedBy nat_cmp touched.now }
-    requires within { (i : ℕ) → Contains touched.now i → i < length (entries shown.old.contents.operations) }
-    ensures notes { IfOk result (AreNotes (shown_with shown.old.contents columns.entry) facilities touched.now) }
+    requires within { (i : ℕ) → Contains touched.now i → i < length (entries records.old.contents.operations) }
+    ensures notes { IfOk result (AreNotes (source_with records.old.contents columns.entry) facilities touched.now) }
     ensures noted { IfOk result (λ n. operations_noted n ≡ length touched.now) }
-    ensures contents { shown.new.contents ≡ shown.old.contents }
-    ensures fewest { shown.old.looks ≤ shown.new.looks }
-    ensures most { shown.new.looks ≤ shown.old.looks + length touched.now }
-    ensures least { OnOk result ((18446744073709551615 ≤ shown.new.looks) ⊎ (shown.old.looks + length touched.now ≤ shown.new.looks)) }
+    ensures contents { records.new.contents ≡ records.old.contents }
+    ensures fewest { records.old.looks ≤ records.new.looks }
+    ensures most { records.new.looks ≤ records.old.looks + length touched.now }
+    ensures least { OnOk result ((18446744073709551615 ≤ records.new.looks) ⊎ (records.old.looks + length touched.now ≤ records.new.looks)) }
 {
-    let operations = note_operations(alloc, shown, columns, touched)?;
-    let occurrences = note_occurrences(alloc, shown, columns, touched)?;
-    let facilities = note_facilities(alloc, shown, facilities)?;
+    let operations = note_operations(alloc, records, columns, touched)?;
+    let occurrences = note_occurrences(alloc, records, columns, touched)?;
+    let facilities = note_facilities(alloc, records, facilities)?;
     Ok(Notes {
         operations,
         occurrences,
@@ -106,14 +106,14 @@ pub fn notes_of(
 // Adds what changes in the tables of intervals and of special resources.
 fn push_noted_facilities(
     alloc: Global,
-    shown: &CountedRecords,
+    records: &CountedRecords,
     noted: &NotedFacilities,
     changes: &mut Changes,
 ) -> Result<(), AllocError>
-    requires noted { (after : RowSourceValue) × IsShown after × NotesFacilities shown.now.contents after.contents.now noted.now }
-    ensures { (before after : RowSourceValue) → before.contents.now ≡ shown.now.contents → IsShown before → IsShown after → NotesFacilities shown.now.contents after.contents.now noted.now → AddsChanges 2 4 (Some before) (Some after) result changes.old changes.new }
+    requires noted { (after : RowSourceValue) × IsSource after × NotesFacilities records.now.contents after.contents.now noted.now }
+    ensures { (before after : RowSourceValue) → before.contents.now ≡ records.now.contents → IsSource before → IsSource after → NotesFacilities records.now.contents after.contents.now noted.now → AddsChanges 2 4 (Some before) (Some after) result changes.old changes.new }
 {
-    let kept = shown.uncounted();
+    let kept = records.uncounted();
     match noted {
         NotedFacilities::Nothing => Ok(()),
         NotedFacilities::Resources(rows) => push_noted_resources(
@@ -131,31 +131,31 @@ fn push_noted_facilities(
     }
 }
 
-/// Which rows of the tables change from a plan at its clock, of which this is shown, to one of which these are notes, at this
+/// Which rows of the tables change from a plan at its clock, whose records these are, to one of which these are notes, at this
 /// clock. It takes a look for each operation that is noted.
 pub fn noted_changes(
     alloc: Global,
-    shown: &mut CountedRecords,
+    records: &mut CountedRecords,
     columns: SourceColumns<'_>,
     was: Moment,
     clock: Moment,
     notes: &Notes,
 ) -> Result<Changes, AllocError>
-    requires shown { IsShown (shown_with shown.old.contents columns) }
-    requires step { (Q : Contents) × IsNotedStep (Some (shown_with shown.old.contents columns)) Q notes.now }
-    ensures changes { (Q : Contents) → IsNotedStep (Some (shown_with shown.old.contents columns.entry)) Q notes.now → IfOk result (λ c. AreChanges (plan_held was (Some shown.old.contents)) (plan_held clock (Some Q)) c.rows.items c.gone.items) }
+    requires source { IsSource (source_with records.old.contents columns) }
+    requires step { (Q : Contents) × IsNotedStep (Some (source_with records.old.contents columns)) Q notes.now }
+    ensures changes { (Q : Contents) → IsNotedStep (Some (source_with records.old.contents columns.entry)) Q notes.now → IfOk result (λ c. AreChanges (plan_held was (Some records.old.contents)) (plan_held clock (Some Q)) c.rows.items c.gone.items) }
     ensures operations { IfOk result (λ c. count_by is_operation c.rows.items ≤ operations_noted notes.now) }
-    ensures contents { shown.new.contents ≡ shown.old.contents }
-    ensures fewest { shown.old.looks ≤ shown.new.looks }
-    ensures most { shown.new.looks ≤ shown.old.looks + operations_noted notes.now }
+    ensures contents { records.new.contents ≡ records.old.contents }
+    ensures fewest { records.old.looks ≤ records.new.looks }
+    ensures most { records.new.looks ≤ records.old.looks + operations_noted notes.now }
 {
     let mut changes = Changes {
         rows: Vec::new(alloc),
         gone: Vec::new(alloc),
     };
     push_meta(true, was, true, clock, &mut changes)?;
-    push_noted_facilities(alloc, shown, &notes.facilities, &mut changes)?;
-    push_noted_occurrences(shown, columns, &notes.occurrences, &mut changes)?;
-    push_noted_operations(shown, columns, &notes.operations, &mut changes)?;
+    push_noted_facilities(alloc, records, &notes.facilities, &mut changes)?;
+    push_noted_occurrences(records, columns, &notes.occurrences, &mut changes)?;
+    push_noted_operations(records, columns, &notes.operations, &mut changes)?;
     Ok(changes)
 }

@@ -9,16 +9,16 @@ ghost use Rattle.plan_records.specs.plan_drafts.specs.declared.RowKey.TheVariant
 ghost use Rattle.plan_rows.specs.Kept.{KeepsRecords};
 ghost use Rattle.plan_rows.specs.Notes.{AddsNotedOccurrences, AreNotedAt, AreWithin};
 ghost use Rattle.plan_rows.specs.Rows.{keyed_occurrences, rows_of};
-ghost use Rattle.plan_rows.specs.Shown.{IsShown, IsShownIfAny, contents_shown, shown_with, source_if_any, source_of};
+ghost use Rattle.plan_rows.specs.Sources.{IsSource, IsSourceIfAny, contents_if_any, source_with, source_if_any, source_of};
 ghost use Rattle.plan_rows.specs.Tables.{AddsChanges};
 ghost use Rattle.plan_rows.specs.Touched.{AreOccurrencesOf};
 ghost use Rattle.plan_rows.specs.declared.row_sources.RowSource.{RowSource as RowSourceValue};
 
 use super::columns::SourceColumns;
+use super::kept_tables::{Tabled, push_kept};
 use super::noted_rows::{Noted, NotedRow, note_rows, push_noted};
 use super::occurrence_places::occurrence_places;
 use super::row_sources::TableSource;
-use super::shown_tables::{Tabled, push_shown};
 use derived_figures::{CountedRecords, occurrence_status_with};
 use plan_basics::OccKey;
 use plan_model::Occurrence;
@@ -30,7 +30,7 @@ use std::alloc::{AllocError, Global};
 fn row_of(occurrences: &[(OccKey, Occurrence)], tallies: &[Counts], place: usize) -> PlanRow
     requires terms { place < length occurrences.now }
     requires numbers { place < length tallies.now }
-    ensures { (s : RowSourceValue) → IsShown s → occurrences.now ≡ entries s.contents.now.occurrences → tallies.now ≡ s.tallies.now → slice_get (rows_of (keyed_occurrences s)) place ≡ Some result }
+    ensures { (s : RowSourceValue) → IsSource s → occurrences.now ≡ entries s.contents.now.occurrences → tallies.now ≡ s.tallies.now → slice_get (rows_of (keyed_occurrences s)) place ≡ Some result }
 {
     let (occurrence, terms) = occurrences[place];
     PlanRow::Occurrence {
@@ -51,7 +51,7 @@ fn key_of(occurrences: &[(OccKey, Occurrence)], place: usize) -> OccKey
 
 // The row of the occurrence at an index.
 fn source_row(source: TableSource<'_>, place: usize) -> PlanRow
-    requires shown { IsShown (source_of source) }
+    requires source { IsSource (source_of source) }
     requires within { place < length (entries source.uncounted.contents.now.occurrences) }
     ensures { slice_get (rows_of (keyed_occurrences (source_of source.entry))) place ≡ Some result }
 {
@@ -94,55 +94,55 @@ impl Tabled for Occurrence {
 pub fn push_occurrences(
     alloc: Global,
     before: Option<TableSource<'_>>,
-    shown: &mut CountedRecords,
+    records: &mut CountedRecords,
     columns: SourceColumns<'_>,
     changes: &mut Changes,
 ) -> Result<(), AllocError>
-    requires before { IsShownIfAny (source_if_any before) }
-    requires shown { IsShown (shown_with shown.old.contents columns) }
-    requires kept { KeepsRecords (contents_shown (source_if_any before)) shown.old.contents }
-    ensures changes { AddsChanges 4 5 (source_if_any before.entry) (Some (shown_with shown.old.contents columns.entry)) result changes.old changes.new }
-    ensures unchanged { shown.new ≡ shown.old }
+    requires before { IsSourceIfAny (source_if_any before) }
+    requires source { IsSource (source_with records.old.contents columns) }
+    requires kept { KeepsRecords (contents_if_any (source_if_any before)) records.old.contents }
+    ensures changes { AddsChanges 4 5 (source_if_any before.entry) (Some (source_with records.old.contents columns.entry)) result changes.old changes.new }
+    ensures unchanged { records.new ≡ records.old }
 {
-    push_shown::<Occurrence>(alloc, before, shown, columns, changes)
+    push_kept::<Occurrence>(alloc, before, records, columns, changes)
 }
 
 impl Noted for Occurrence {
     ghost looks = { 0 };
 
-    fn seen(shown: &mut CountedRecords, columns: SourceColumns<'_>, place: usize) -> PlanRow {
-        row_of(shown.uncounted().occurrences(), columns.tallies, place)
+    fn seen(records: &mut CountedRecords, columns: SourceColumns<'_>, place: usize) -> PlanRow {
+        row_of(records.uncounted().occurrences(), columns.tallies, place)
     }
 }
 
 /// Notes the rows of the occurrences to which the operations at these places belong.
 pub fn note_occurrences(
     alloc: Global,
-    shown: &mut CountedRecords,
+    records: &mut CountedRecords,
     columns: SourceColumns<'_>,
     touched: &[usize],
 ) -> Result<Vec<NotedRow>, AllocError>
-    requires shown { IsShown (shown_with shown.old.contents columns) }
+    requires source { IsSource (source_with records.old.contents columns) }
     requires ascend { IsStrictlySortedBy nat_cmp touched.now }
-    requires within { (i : ℕ) → Contains touched.now i → i < length (entries shown.old.contents.operations) }
-    ensures notes { IfOk result (λ v. (places : List ℕ) × AreOccurrencesOf shown.old.contents touched.now places × AreNotedAt (rows_of (keyed_occurrences (shown_with shown.old.contents columns.entry))) places v.items) }
-    ensures unchanged { shown.new ≡ shown.old }
+    requires within { (i : ℕ) → Contains touched.now i → i < length (entries records.old.contents.operations) }
+    ensures notes { IfOk result (λ v. (places : List ℕ) × AreOccurrencesOf records.old.contents touched.now places × AreNotedAt (rows_of (keyed_occurrences (source_with records.old.contents columns.entry))) places v.items) }
+    ensures unchanged { records.new ≡ records.old }
 {
-    let places = occurrence_places(alloc, shown, touched)?;
-    note_rows::<Occurrence>(alloc, shown, columns, &places)
+    let places = occurrence_places(alloc, records, touched)?;
+    note_rows::<Occurrence>(alloc, records, columns, &places)
 }
 
 /// Adds what changes in the table of occurrences, from the rows of those that are noted.
 pub fn push_noted_occurrences(
-    shown: &mut CountedRecords,
+    records: &mut CountedRecords,
     columns: SourceColumns<'_>,
     notes: &[NotedRow],
     changes: &mut Changes,
 ) -> Result<(), AllocError>
-    requires shown { IsShown (shown_with shown.old.contents columns) }
-    requires within { AreWithin (length (entries shown.old.contents.occurrences)) notes.now }
-    ensures told { AddsNotedOccurrences (shown_with shown.old.contents columns.entry) notes.now result changes.old changes.new }
-    ensures unchanged { shown.new ≡ shown.old }
+    requires source { IsSource (source_with records.old.contents columns) }
+    requires within { AreWithin (length (entries records.old.contents.occurrences)) notes.now }
+    ensures told { AddsNotedOccurrences (source_with records.old.contents columns.entry) notes.now result changes.old changes.new }
+    ensures unchanged { records.new ≡ records.old }
 {
-    push_noted::<Occurrence>(shown, columns, notes, &mut changes.rows)
+    push_noted::<Occurrence>(records, columns, notes, &mut changes.rows)
 }

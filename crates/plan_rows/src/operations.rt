@@ -7,13 +7,13 @@ ghost use Rattle.plan_records.specs.plan_drafts.specs.declared.RowKey.TheVariant
 ghost use Rattle.plan_rows.specs.Kept.{AreKnownAlike, KeepsRecords};
 ghost use Rattle.plan_rows.specs.Notes.{AddsNotedOperations, AreNotedAt, AreWithin, is_operation};
 ghost use Rattle.plan_rows.specs.Rows.{keyed_operations, rows_of};
-ghost use Rattle.plan_rows.specs.Shown.{IsShown, IsShownIfAny, contents_shown, shown_with, source_if_any};
+ghost use Rattle.plan_rows.specs.Sources.{IsSource, IsSourceIfAny, contents_if_any, source_with, source_if_any};
 ghost use Rattle.plan_rows.specs.Tables.{AddsChanges};
 
 use super::columns::SourceColumns;
+use super::kept_tables::{Tabled, push_kept};
 use super::noted_rows::{Noted, NotedRow, note_rows, push_noted};
 use super::row_sources::TableSource;
-use super::shown_tables::{Tabled, push_shown};
 use derived_figures::{CountedRecords, Standing};
 use plan_basics::OpKey;
 use plan_model::{Latest, OperationRecord};
@@ -28,8 +28,8 @@ fn row_of(
     columns: SourceColumns<'_>,
     place: usize,
 ) -> PlanRow
-    requires { (P : Contents) × IsShown (shown_with P columns) × (slice_get (entries P.operations) place ≡ Some (op, operation.now)) }
-    ensures { (P : Contents) → IsShown (shown_with P columns.entry) → slice_get (entries P.operations) place ≡ Some (op, operation.now) → slice_get (rows_of (keyed_operations (shown_with P columns.entry))) place ≡ Some result }
+    requires { (P : Contents) × IsSource (source_with P columns) × (slice_get (entries P.operations) place ≡ Some (op, operation.now)) }
+    ensures { (P : Contents) → IsSource (source_with P columns.entry) → slice_get (entries P.operations) place ≡ Some (op, operation.now) → slice_get (rows_of (keyed_operations (source_with P columns.entry))) place ≡ Some result }
 {
     PlanRow::Operation(OperationRow {
         op,
@@ -103,8 +103,8 @@ fn are_known_alike(
     old: usize,
     new: usize,
 ) -> bool
-    requires before { (P : Contents) × IsShown (shown_with P before) × (old < length (entries P.operations)) }
-    requires after { (Q : Contents) × IsShown (shown_with Q after) × (new < length (entries Q.operations)) }
+    requires before { (P : Contents) × IsSource (source_with P before) × (old < length (entries P.operations)) }
+    requires after { (Q : Contents) × IsSource (source_with Q after) × (new < length (entries Q.operations)) }
     ensures { IsTrue result ↔ AreKnownAlike before.entry after.entry old new }
 {
     if !have_one_status(before.statuses, after.statuses, old, new) {
@@ -144,31 +144,31 @@ impl Tabled for OperationRecord {
     ghost exact = { operation_cmp-IsAntisymmetric };
 }
 
-/// Adds what changes in the table of operations, where what is shown keeps the operations of the plan before: a look at each that is
+/// Adds what changes in the table of operations, where these records keep the operations of the plan before: a look at each that is
 /// told. Of any other its status, latest start and number of waiting predecessors are those before, and so is its record.
 pub fn push_operations(
     alloc: Global,
     before: Option<TableSource<'_>>,
-    shown: &mut CountedRecords,
+    records: &mut CountedRecords,
     columns: SourceColumns<'_>,
     changes: &mut Changes,
 ) -> Result<(), AllocError>
-    requires before { IsShownIfAny (source_if_any before) }
-    requires shown { IsShown (shown_with shown.old.contents columns) }
-    requires kept { KeepsRecords (contents_shown (source_if_any before)) shown.old.contents }
-    ensures changes { AddsChanges 5 6 (source_if_any before.entry) (Some (shown_with shown.old.contents columns.entry)) result changes.old changes.new }
-    ensures contents { shown.new.contents ≡ shown.old.contents }
-    ensures fewest { shown.old.looks ≤ shown.new.looks }
-    ensures most { shown.new.looks ≤ shown.old.looks + length (entries shown.old.contents.operations) }
+    requires before { IsSourceIfAny (source_if_any before) }
+    requires source { IsSource (source_with records.old.contents columns) }
+    requires kept { KeepsRecords (contents_if_any (source_if_any before)) records.old.contents }
+    ensures changes { AddsChanges 5 6 (source_if_any before.entry) (Some (source_with records.old.contents columns.entry)) result changes.old changes.new }
+    ensures contents { records.new.contents ≡ records.old.contents }
+    ensures fewest { records.old.looks ≤ records.new.looks }
+    ensures most { records.new.looks ≤ records.old.looks + length (entries records.old.contents.operations) }
 {
-    push_shown::<OperationRecord>(alloc, before, shown, columns, changes)
+    push_kept::<OperationRecord>(alloc, before, records, columns, changes)
 }
 
 impl Noted for OperationRecord {
     ghost looks = { 1 };
 
-    fn seen(shown: &mut CountedRecords, columns: SourceColumns<'_>, place: usize) -> PlanRow {
-        let seen = shown.see(place);
+    fn seen(records: &mut CountedRecords, columns: SourceColumns<'_>, place: usize) -> PlanRow {
+        let seen = records.see(place);
         row_of(*seen.key, seen.operation, columns, place)
     }
 }
@@ -176,35 +176,35 @@ impl Noted for OperationRecord {
 /// Notes the rows of the operations at these places: a look at each.
 pub fn note_operations(
     alloc: Global,
-    shown: &mut CountedRecords,
+    records: &mut CountedRecords,
     columns: SourceColumns<'_>,
     touched: &[usize],
 ) -> Result<Vec<NotedRow>, AllocError>
-    requires shown { IsShown (shown_with shown.old.contents columns) }
-    requires within { (i : ℕ) → Contains touched.now i → i < length (entries shown.old.contents.operations) }
-    ensures notes { IfOk result (λ v. AreNotedAt (rows_of (keyed_operations (shown_with shown.old.contents columns.entry))) touched.now v.items) }
-    ensures contents { shown.new.contents ≡ shown.old.contents }
-    ensures fewest { shown.old.looks ≤ shown.new.looks }
-    ensures most { shown.new.looks ≤ shown.old.looks + length touched.now }
-    ensures least { OnOk result ((18446744073709551615 ≤ shown.new.looks) ⊎ (shown.old.looks + length touched.now ≤ shown.new.looks)) }
+    requires source { IsSource (source_with records.old.contents columns) }
+    requires within { (i : ℕ) → Contains touched.now i → i < length (entries records.old.contents.operations) }
+    ensures notes { IfOk result (λ v. AreNotedAt (rows_of (keyed_operations (source_with records.old.contents columns.entry))) touched.now v.items) }
+    ensures contents { records.new.contents ≡ records.old.contents }
+    ensures fewest { records.old.looks ≤ records.new.looks }
+    ensures most { records.new.looks ≤ records.old.looks + length touched.now }
+    ensures least { OnOk result ((18446744073709551615 ≤ records.new.looks) ⊎ (records.old.looks + length touched.now ≤ records.new.looks)) }
 {
-    note_rows::<OperationRecord>(alloc, shown, columns, touched)
+    note_rows::<OperationRecord>(alloc, records, columns, touched)
 }
 
 /// Adds what changes in the table of operations, from the rows of touched operations that are noted: a look for each.
 pub fn push_noted_operations(
-    shown: &mut CountedRecords,
+    records: &mut CountedRecords,
     columns: SourceColumns<'_>,
     notes: &[NotedRow],
     changes: &mut Changes,
 ) -> Result<(), AllocError>
-    requires shown { IsShown (shown_with shown.old.contents columns) }
-    requires within { AreWithin (length (entries shown.old.contents.operations)) notes.now }
-    ensures told { AddsNotedOperations (shown_with shown.old.contents columns.entry) notes.now result changes.old changes.new }
+    requires source { IsSource (source_with records.old.contents columns) }
+    requires within { AreWithin (length (entries records.old.contents.operations)) notes.now }
+    ensures told { AddsNotedOperations (source_with records.old.contents columns.entry) notes.now result changes.old changes.new }
     ensures operations { OnOk result (count_by is_operation changes.new.rows.items ≤ count_by is_operation changes.old.rows.items + length notes.now) }
-    ensures contents { shown.new.contents ≡ shown.old.contents }
-    ensures fewest { shown.old.looks ≤ shown.new.looks }
-    ensures most { shown.new.looks ≤ shown.old.looks + length notes.now }
+    ensures contents { records.new.contents ≡ records.old.contents }
+    ensures fewest { records.old.looks ≤ records.new.looks }
+    ensures most { records.new.looks ≤ records.old.looks + length notes.now }
 {
-    push_noted::<OperationRecord>(shown, columns, notes, &mut changes.rows)
+    push_noted::<OperationRecord>(records, columns, notes, &mut changes.rows)
 }

@@ -6,7 +6,7 @@ ghost use Rattle.plan_basics.specs.Keys.{name_cmp-IsAntisymmetric};
 ghost use Rattle.plan_records.specs.plan_drafts.specs.declared.RowKey.TheVariants as key;
 ghost use Rattle.plan_rows.specs.Alike.{quantity_alike};
 ghost use Rattle.plan_rows.specs.Rows.{quantity_row, quantity_written};
-ghost use Rattle.plan_rows.specs.Shown.{source_if_any};
+ghost use Rattle.plan_rows.specs.Sources.{source_if_any};
 ghost use Rattle.plan_rows.specs.Tables.{AddsChanges};
 
 use super::row_sources::TableSource;

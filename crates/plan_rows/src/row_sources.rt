@@ -1,6 +1,6 @@
 // What is kept of a loaded plan, for its views.
 ghost use Rattle.std.specs.Prelude.{◌≡◌};
-ghost use Rattle.plan_rows.specs.Shown.{IsShown};
+ghost use Rattle.plan_rows.specs.Sources.{IsSource};
 
 use super::columns::SourceColumns;
 use derived_figures::{LoadedPlan, Standing, UncountedContents};
@@ -23,7 +23,7 @@ impl<'a> RowSource<'a> {
     /// What is kept of this plan.
     pub fn of(loaded: &'a LoadedPlan) -> RowSource<'a>
         ensures contents { result.contents.now ≡ loaded.now }
-        ensures shown { IsShown result }
+        ensures source { IsSource result }
     {
         RowSource {
             contents: loaded.contents().rows(),

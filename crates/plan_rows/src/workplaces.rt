@@ -4,7 +4,7 @@ ghost use Rattle.std.specs.Map.{keys_of};
 ghost use Rattle.plan_basics.specs.Keys.{Name, name_cmp-IsAntisymmetric};
 ghost use Rattle.plan_records.specs.plan_drafts.specs.declared.RowKey.TheVariants as key;
 ghost use Rattle.plan_rows.specs.Rows.{workstation_row};
-ghost use Rattle.plan_rows.specs.Shown.{source_if_any};
+ghost use Rattle.plan_rows.specs.Sources.{source_if_any};
 ghost use Rattle.plan_rows.specs.Tables.{AddsChanges};
 
 use super::row_sources::TableSource;

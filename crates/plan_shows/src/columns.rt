@@ -3,9 +3,10 @@ ghost use Rattle.std.specs.Prelude.{◌≡◌};
 ghost use Rattle.plan_reasons.specs.Texts.{mode_word};
 ghost use Rattle.plan_shows.specs.Columns.{available_text, held_text, mark_word, nop_text, not_before_text, verb_text};
 
-use plan_basics::Moment;
-use report_lines::{NO_MOMENT, moment_text};
+use plan_basics::{Moment, NO_MOMENT};
+use report_lines::moment_text;
 use request_json::What;
+use request_json::verbs::{ENDED, ERROR, INTERRUPTED, STARTED, UNKNOWN};
 use special_resources::Mode;
 use status_rules::Mark;
 
@@ -66,11 +67,11 @@ pub(crate) fn verb_text<'a>(what: &What) -> &'a [u8]
     ensures { result.now ≡ verb_text what.now }
 {
     match what {
-        What::Started(_) => b"started",
-        What::Ended(_) => b"ended",
-        What::Error(_, _) => b"error",
-        What::Interrupted(_) => b"interrupted",
-        What::Unknown(_) => b"unknown",
+        What::Started(_) => STARTED.as_bytes(),
+        What::Ended(_) => ENDED.as_bytes(),
+        What::Error(_, _) => ERROR.as_bytes(),
+        What::Interrupted(_) => INTERRUPTED.as_bytes(),
+        What::Unknown(_) => UNKNOWN.as_bytes(),
         _ => b"-----------",
     }
 }

@@ -9,9 +9,9 @@ use super::columns::{
 use super::resources::{HolderView, ResourceAmounts, ResourceRow};
 use super::stations::WorkstationView;
 use super::trackers::TrackerView;
-use plan_basics::{OccKey, OpKey};
+use plan_basics::{NO_MOMENT, OccKey, OpKey};
 use plan_reasons::OpView;
-use report_lines::{Field, Layout, NO_MOMENT, latest_text, moment_text, put_line, right};
+use report_lines::{Field, Layout, latest_text, moment_text, put_line, right};
 use request_json::Request;
 use std::alloc::AllocError;
 

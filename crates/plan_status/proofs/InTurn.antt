@@ -64,9 +64,9 @@ pub record AreAllInTurn (g : Digraph) (edges : List Edge) : Type 0 where
   pub listed : (p s : ℕ) → Contains edges (p, s) ↔ HasEdge g p s
   pub turn : AreInTurn edges
 
--- they are, where a slice shows them
-pub all_shown : (g : Digraph) (shown edges : List Edge) → shown ≡ edges → AreDifferent edges × ((p s : ℕ) → Contains edges (p, s) ↔ HasEdge g p s) → AreInTurn edges → AreAllInTurn g shown
-all_shown g shown edges same told turn = subst (AreAllInTurn g) (sym same) (record { different = told.0; listed = told.1; turn = turn })
+-- they are, where a slice lends them
+pub all_lent : (g : Digraph) (lent edges : List Edge) → lent ≡ edges → AreDifferent edges × ((p s : ℕ) → Contains edges (p, s) ↔ HasEdge g p s) → AreInTurn edges → AreAllInTurn g lent
+all_lent g lent edges same told turn = subst (AreAllInTurn g) (sym same) (record { different = told.0; listed = told.1; turn = turn })
 
 -- an edge's ends are rows, and their keys are a pair of the plan
 pub record IsPairAt (P : Contents) (e : Edge) : Type 0 where

@@ -12,10 +12,10 @@ module _ {K V : Type 0} where
   row_of_key (row ∷ rows) zero k at = let same : row.0 ≡ k = cc in (row.1, ap (λ z. Some (z, row.1)) same)
   row_of_key (row ∷ rows) (suc i) k at = row_of_key rows i k at
 
--- what is read of rows that are shown as a slice is there
-pub row_shown : {X : Type 0} (shown rows : List X) → shown ≡ rows → (i : ℕ) (x : X) → i < length shown → x ≡ get_or shown i x → slice_get rows i ≡ Some x
-row_shown shown rows same i x lt is = subst (λ xs. slice_get xs i ≡ Some x) same (slice_get-get_or shown i x lt ∙ ap Some (sym is))
+-- what is read of rows that are lent as a slice is there
+pub row_lent : {X : Type 0} (lent rows : List X) → lent ≡ rows → (i : ℕ) (x : X) → i < length lent → x ≡ get_or lent i x → slice_get rows i ≡ Some x
+row_lent lent rows same i x lt is = subst (λ xs. slice_get xs i ≡ Some x) same (slice_get-get_or lent i x lt ∙ ap Some (sym is))
 
 -- and so is what is read at an index
-pub row_read : {X : Type 0} (shown rows : List X) → shown ≡ rows → (i : ℕ) (d : X) → i < length rows → slice_get rows i ≡ Some (get_or shown i d)
-row_read shown rows same i d lt = subst (λ xs. slice_get xs i ≡ Some (get_or shown i d)) same (slice_get-get_or shown i d (subst (λ xs. i < length xs) (sym same) lt))
+pub row_read : {X : Type 0} (lent rows : List X) → lent ≡ rows → (i : ℕ) (d : X) → i < length rows → slice_get rows i ≡ Some (get_or lent i d)
+row_read lent rows same i d lt = subst (λ xs. slice_get xs i ≡ Some (get_or lent i d)) same (slice_get-get_or lent i d (subst (λ xs. i < length xs) (sym same) lt))

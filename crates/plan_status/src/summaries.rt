@@ -49,10 +49,7 @@ impl OperationSummary {
     pub fn starts_are_known(&self) -> bool
         ensures { result ≡ takes (Some self.now.attribute) }
     {
-        match self.attribute {
-            Attr::Automatic | Attr::StartAndCompletion => true,
-            Attr::CompletionOnly | Attr::Nonreporting => false,
-        }
+        self.attribute.knows_starts()
     }
 }
 
@@ -80,7 +77,7 @@ pub fn summary_of(
     }
 }
 
-/// The summary of each operation, in key order. No look is counted: it is for contents that aren't shown.
+/// The summary of each operation, in key order: for contents of which no looks are counted.
 pub fn summaries_of(
     alloc: Global,
     contents: &ValidContents,

@@ -24,12 +24,13 @@ use Rattle.plan_drafts.specs.declared.RowKey.TheVariants as key
 use Rattle.plan_drafts.specs.Records.{key_of, StandsIn, AreItemsOf}
 use Rattle.plan_drafts.specs.PlanItems.{CanBeLoaded, Fits, IsNeedIn, IsWithinStock, IsPairIn, keys_said, needs_of, occurrence_of}
 use Rattle.plan_drafts.proofs.Lists.{in_filter, from_map}
-use Rattle.plan_drafts.proofs.Needed.{mapped, needed}
-use Rattle.plan_drafts.proofs.ItemsHeld.{held_by_plan, occurrences_count}
+use Rattle.plan_drafts.proofs.Needed.{mapped}
+use Rattle.plan_denotation.proofs.Needed.{needed}
+use Rattle.plan_denotation.proofs.ItemsHeld.{held_by_plan, occurrences_count}
 use Rattle.plan_drafts.proofs.Tables.{some_is}
-use Rattle.plan_drafts.proofs.Denoting.{are_denoted, denoted_items}
-use Rattle.plan_drafts.proofs.ItemKinds as kinds
-use Rattle.plan_drafts.proofs.ItemKinds.{workstations_in, intervals_in, resources_in, occurrences_in, operations_in, pairs_in, needs_in, key_out, of_kind, read_in, read_stands, so_many}
+use Rattle.plan_denotation.proofs.Denoting.{are_denoted, denoted_items}
+use Rattle.plan_denotation.proofs.ItemKinds as kinds
+use Rattle.plan_denotation.proofs.ItemKinds.{workstations_in, intervals_in, resources_in, occurrences_in, operations_in, pairs_in, needs_in, key_out, of_kind, read_in, read_stands, so_many}
 use Rattle.plan_drafts.specs.PlanItems.{as_interval, as_operation, as_pair, as_need, as_resource}
 use Rattle.record_faults.specs.declared.faults.Fault.{Fault}
 use Rattle.record_faults.specs.declared.faults.Fault.TheVariants as fault

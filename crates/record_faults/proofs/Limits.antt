@@ -8,7 +8,7 @@ use Rattle.plan_basics.specs.Keys.{Name, name_cmp, operation_cmp}
 use Rattle.plan_items.specs.declared.Item.{Item}
 use Rattle.plan_items.specs.declared.Item.TheVariants as item
 use Rattle.plan_drafts.specs.PlanItems.{as_workstation, as_interval, as_resource, as_occurrence, as_operation, as_pair, as_need, own_interval, own_need, intervals_of, needs_of}
-use Rattle.plan_drafts.proofs.ItemKinds.{workstations_in, intervals_in, resources_in, occurrences_in, operations_in, needs_in, pairs_in}
+use Rattle.plan_denotation.proofs.ItemKinds.{workstations_in, intervals_in, resources_in, occurrences_in, operations_in, needs_in, pairs_in}
 use Rattle.record_faults.specs.declared.groups.Group.{Group}
 use Rattle.record_faults.specs.declared.groups.Group.TheVariants as group
 use Rattle.record_faults.specs.Groups.{group_of, grouped, is_of, count_of}

@@ -18,8 +18,8 @@ use Rattle.plan_drafts.specs.Records.{AreItemsOf}
 use Rattle.plan_drafts.specs.PlanItems.{CanBeLoaded, AreRowsOfItems, opened_in, row_of}
 use Rattle.plan_drafts.proofs.Lists.{differ_from_pairs, differ_map}
 use Rattle.plan_drafts.proofs.Pairs.{pair_cmp_total, pair_cmp-IsAntisymmetric}
-use Rattle.plan_drafts.proofs.Denoting.{made_of}
-use Rattle.plan_drafts.proofs.ItemKinds.{workstations_in, intervals_in, resources_in, occurrences_in, operations_in, needs_in, pairs_in}
+use Rattle.plan_denotation.proofs.Denoting.{made_of}
+use Rattle.plan_denotation.proofs.ItemKinds.{workstations_in, intervals_in, resources_in, occurrences_in, operations_in, needs_in, pairs_in}
 use Rattle.record_faults.proofs.Sorting.{in_order}
 
 -- each as it is

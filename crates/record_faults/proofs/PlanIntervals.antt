@@ -10,7 +10,7 @@ use Rattle.plan_items.specs.declared.Item.{Item}
 use Rattle.plan_items.specs.declared.Item.TheVariants as item
 use Rattle.plan_drafts.specs.PlanItems.{CanBeLoaded, CanOpen, IsOpening, as_interval, own_interval, intervals_of}
 use Rattle.plan_drafts.proofs.Lists.{Kept, differ_from_pairs, pairs_from_differ, differ_kept, from_map}
-use Rattle.plan_drafts.proofs.ItemKinds.{workstations_in, intervals_in}
+use Rattle.plan_denotation.proofs.ItemKinds.{workstations_in, intervals_in}
 use Rattle.plan_drafts.proofs.Keyed.{own_is}
 
 module _ (items : List Item) (can : CanBeLoaded items) (w : Name) (has : Contains (keys_of (workstations_in items)) w) where

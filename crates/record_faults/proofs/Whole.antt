@@ -32,9 +32,9 @@ use Rattle.plan_drafts.proofs.Lists.{differ_from_pairs, pairs_from_differ, diffe
 use Rattle.plan_drafts.proofs.Tables.{itself, from_set}
 use Rattle.plan_drafts.proofs.Pairs.{pair_cmp_total, pair_cmp-IsAntisymmetric}
 use Rattle.plan_drafts.proofs.Keyed.{own_from}
-use Rattle.plan_drafts.proofs.Denoting.{items_legal}
-use Rattle.plan_drafts.proofs.ItemKinds as kinds
-use Rattle.plan_drafts.proofs.ItemKinds.{workstations_in, intervals_in, resources_in, occurrences_in, operations_in, needs_in, pairs_in, key_in, key_out, read_stands, read_distinct}
+use Rattle.plan_denotation.proofs.Denoting.{items_legal}
+use Rattle.plan_denotation.proofs.ItemKinds as kinds
+use Rattle.plan_denotation.proofs.ItemKinds.{workstations_in, intervals_in, resources_in, occurrences_in, operations_in, needs_in, pairs_in, key_in, key_out, read_stands, read_distinct}
 use Rattle.record_faults.specs.declared.kinds.Kind.{Kind}
 use Rattle.record_faults.specs.declared.kinds.Form.TheVariants as form
 use Rattle.record_faults.specs.declared.kinds.Shape.{Shape}

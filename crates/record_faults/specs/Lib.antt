@@ -1,3 +1,4 @@
+pub use Rattle.plan_denotation
 pub mod Shapes
 pub mod Sayings
 pub mod Groups

@@ -4,7 +4,7 @@ ghost use Rattle.plan_items.specs.Items.{Fields, IsItem};
 ghost use Rattle.record_faults.specs.Sayings.{AreSayings};
 ghost use Rattle.record_faults.specs.Plans.{MakeSome, SaySome};
 
-use plan_drafts::contents_of_items;
+use plan_denotation::contents_of_items;
 use plan_items::Item;
 use std::alloc::{AllocError, Global};
 

@@ -102,91 +102,102 @@ const DURATION: Form = Form::Number(SHORTEST_DURATION as u32, LONGEST_DURATION a
 
 const QUANTITY: Form = Form::NumberOrEmpty(1, MOST_QUANTITY);
 
-// The forms of the nine fields after a kind's letter.
+// The forms of the nine fields after each kind's letter.
+const WORKSTATION: [Form; 9] = [
+    Form::WorkstationName,
+    Form::Attribute,
+    Form::Empty,
+    Form::Empty,
+    Form::Empty,
+    Form::Empty,
+    Form::Empty,
+    Form::Empty,
+    Form::Empty,
+];
+
+const INTERVAL: [Form; 9] = [
+    Form::WorkstationName,
+    Form::Moment,
+    Form::Moment,
+    SERVERS,
+    FIXED_AMOUNT,
+    FIXED_AMOUNT,
+    Form::Empty,
+    Form::Empty,
+    Form::Empty,
+];
+
+const RESOURCE: [Form; 9] = [
+    Form::ResourceName,
+    Form::OneOf(b'Y', b'N'),
+    QUANTITY,
+    Form::Empty,
+    Form::Empty,
+    Form::Empty,
+    Form::Empty,
+    Form::Empty,
+    Form::Empty,
+];
+
+const OCCURRENCE: [Form; 9] = [
+    Form::ApplicationName,
+    Form::Moment,
+    PRIORITY,
+    Form::Moment,
+    Form::Empty,
+    Form::Empty,
+    Form::Empty,
+    Form::Empty,
+    Form::Empty,
+];
+
+const OPERATION: [Form; 9] = [
+    Form::ApplicationName,
+    Form::Moment,
+    OPERATION_NUMBER,
+    Form::WorkstationName,
+    DURATION,
+    FIXED_AMOUNT,
+    FIXED_AMOUNT,
+    Form::MomentOrEmpty,
+    Form::MomentOrEmpty,
+];
+
+const DEPENDENCY: [Form; 9] = [
+    Form::ApplicationName,
+    Form::Moment,
+    OPERATION_NUMBER,
+    Form::ApplicationName,
+    Form::Moment,
+    OPERATION_NUMBER,
+    Form::Empty,
+    Form::Empty,
+    Form::Empty,
+];
+
+const NEED: [Form; 9] = [
+    Form::ApplicationName,
+    Form::Moment,
+    OPERATION_NUMBER,
+    Form::ResourceName,
+    Form::OneOf(b'S', b'X'),
+    Form::OneOf(b'K', b'F'),
+    QUANTITY,
+    Form::Empty,
+    Form::Empty,
+];
+
+/// The forms of the nine fields after a kind's letter.
 pub fn forms(kind: Kind) -> [Form; 9]
     ensures { result ≡ forms_of kind }
 {
-    use Form::{
-        ApplicationName, Attribute, Empty, Moment, MomentOrEmpty, OneOf, ResourceName,
-        WorkstationName,
-    };
     match kind {
-        Kind::Workstation => [
-            WorkstationName,
-            Attribute,
-            Empty,
-            Empty,
-            Empty,
-            Empty,
-            Empty,
-            Empty,
-            Empty,
-        ],
-        Kind::Interval => [
-            WorkstationName,
-            Moment,
-            Moment,
-            SERVERS,
-            FIXED_AMOUNT,
-            FIXED_AMOUNT,
-            Empty,
-            Empty,
-            Empty,
-        ],
-        Kind::Resource => [
-            ResourceName,
-            OneOf(b'Y', b'N'),
-            QUANTITY,
-            Empty,
-            Empty,
-            Empty,
-            Empty,
-            Empty,
-            Empty,
-        ],
-        Kind::Occurrence => [
-            ApplicationName,
-            Moment,
-            PRIORITY,
-            Moment,
-            Empty,
-            Empty,
-            Empty,
-            Empty,
-            Empty,
-        ],
-        Kind::Operation => [
-            ApplicationName,
-            Moment,
-            OPERATION_NUMBER,
-            WorkstationName,
-            DURATION,
-            FIXED_AMOUNT,
-            FIXED_AMOUNT,
-            MomentOrEmpty,
-            MomentOrEmpty,
-        ],
-        Kind::Dependency => [
-            ApplicationName,
-            Moment,
-            OPERATION_NUMBER,
-            ApplicationName,
-            Moment,
-            OPERATION_NUMBER,
-            Empty,
-            Empty,
-            Empty,
-        ],
-        Kind::Need => [
-            ApplicationName,
-            Moment,
-            OPERATION_NUMBER,
-            ResourceName,
-            OneOf(b'S', b'X'),
-            OneOf(b'K', b'F'),
-            QUANTITY,
-            Empty,
-            Empty,
-        ],
+        Kind::Workstation => WORKSTATION,
+        Kind::Interval => INTERVAL,
+        Kind::Resource => RESOURCE,
+        Kind::Occurrence => OCCURRENCE,
+        Kind::Operation => OPERATION,
+        Kind::Dependency => DEPENDENCY,
+        Kind::Need => NEED,
     }
 }

@@ -84,10 +84,7 @@ fn item_at(said: &[Option<Item>], place: usize) -> Option<Item>
 fn starts_are_known(attribute: Attr) -> bool
     ensures { IsTrue result ↔ StartsAreKnown attribute }
 {
-    match attribute {
-        Attr::Automatic | Attr::StartAndCompletion => true,
-        Attr::CompletionOnly | Attr::Nonreporting => false,
-    }
+    attribute.knows_starts()
 }
 
 // The workstation that is said, if one is, and starts are known on it.

@@ -1,7 +1,7 @@
-//! The permit to show a plan's records: whoever lists this crate can show them, and take apart again what shows them.
+//! The permit to count the looks at a plan's records: whoever lists this crate can make counted records, and take them apart again.
 #![tactic(auto)]
 
-/// The permit to show records. A crate that doesn't list this one can't get one.
+/// The permit to make counted records and to take them apart. A crate that doesn't list this one can't get one.
 #[derive(Drop)]
 pub struct Permit {
     granted: (),

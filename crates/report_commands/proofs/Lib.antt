@@ -1,3 +1,4 @@
 mod Ended
 mod Reasoned
 mod Told
+mod Prospected

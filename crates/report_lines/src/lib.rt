@@ -7,5 +7,5 @@ mod moments;
 mod texts;
 
 pub use lines::{Field, put_line, right};
-pub use moments::{NO_MOMENT, latest_text, moment_text};
+pub use moments::{latest_text, moment_text};
 pub use texts::{Layout, report};

@@ -5,9 +5,6 @@ ghost use Rattle.report_lines.specs.Moments.{latest_text};
 
 use plan_basics::{Moment, minute_text};
 
-/// Sixteen hyphens, where there is no moment.
-pub const NO_MOMENT: [u8; 16] = *b"----------------";
-
 /// The text of a moment.
 pub fn moment_text(moment: Moment) -> [u8; 16]
     ensures { result ≡ moment_text moment }

@@ -2,3 +2,4 @@ mod Loaded
 pub mod LoadedDatabases
 mod Played
 mod Told
+mod Replayed

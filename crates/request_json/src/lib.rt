@@ -35,6 +35,7 @@ mod records;
 mod replies;
 mod requests;
 mod rows;
+pub mod verbs;
 
 pub use faults::{MemberName, RequestFault, RequestKind, faults_of_request, request_fault_text};
 use members::{number_at, text_at, tracker_at};

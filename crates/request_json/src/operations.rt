@@ -7,6 +7,9 @@ ghost use Rattle.request_json.specs.Counted.{AsksBy, IsReportVerb, on_operation,
 ghost use Rattle.serde_json.specs.View.{view};
 
 use super::members::operation_at;
+use super::verbs::{
+    COMPLETE, ENDED, ERROR, HOLD, INTERRUPTED, NOP, RELEASE, RERUN, STARTED, UNKNOWN, UNNOP,
+};
 use plan_basics::OpKey;
 use plan_records::What;
 use serde_json::Value;
@@ -15,10 +18,7 @@ use serde_json::Value;
 pub fn is_report(verb: &str) -> bool
     ensures { IsTrue result ↔ IsReportVerb verb.now }
 {
-    matches!(
-        verb,
-        "started" | "ended" | "error" | "interrupted" | "unknown"
-    )
+    matches!(verb, STARTED | ENDED | ERROR | INTERRUPTED | UNKNOWN)
 }
 
 /// What is asked of an operation, where nothing but its key is to be told.
@@ -38,16 +38,16 @@ fn on_operation(verb: &str, key: OpKey) -> Option<What>
         (λ x. on_operation x ≡ Some (verb.now, key)) }
 {
     match verb {
-        "started" => Some(What::Started(key)),
-        "ended" => Some(What::Ended(key)),
-        "interrupted" => Some(What::Interrupted(key)),
-        "unknown" => Some(What::Unknown(key)),
-        "hold" => Some(What::Hold(key)),
-        "release" => Some(What::Release(key)),
-        "nop" => Some(What::Nop(key)),
-        "unnop" => Some(What::Unnop(key)),
-        "rerun" => Some(What::Rerun(key)),
-        "complete" => Some(What::Complete(key)),
+        STARTED => Some(What::Started(key)),
+        ENDED => Some(What::Ended(key)),
+        INTERRUPTED => Some(What::Interrupted(key)),
+        UNKNOWN => Some(What::Unknown(key)),
+        HOLD => Some(What::Hold(key)),
+        RELEASE => Some(What::Release(key)),
+        NOP => Some(What::Nop(key)),
+        UNNOP => Some(What::Unnop(key)),
+        RERUN => Some(What::Rerun(key)),
+        COMPLETE => Some(What::Complete(key)),
         _ => None,
     }
 }

@@ -12,6 +12,7 @@ use super::members::{
 };
 use super::operations::read_on_operation;
 use super::records::{read_add, read_extend, read_load};
+use super::verbs::{ADD, AVAILABLE, DELETE, DEPEND, ERROR, EXTEND, INTERVALS, LOAD, TICK};
 use plan_records::{Request, What};
 use serde_json::Value;
 use std::alloc::{AllocError, Global};
@@ -57,15 +58,15 @@ fn read_what(
     ensures { IfOk result (IsReading (AsksBy (view value.now) verb.now count)) }
 {
     match verb {
-        "tick" => Ok(read_tick(count)),
-        "error" => Ok(read_error(value, count)),
-        "load" => read_load(alloc, value, count),
-        "add" => read_add(alloc, value, count),
-        "extend" => read_extend(alloc, value, count),
-        "delete" => Ok(read_delete(value, count)),
-        "depend" => Ok(read_depend(value, count)),
-        "available" => Ok(read_available(value, count)),
-        "intervals" => read_replacement(alloc, value, count),
+        TICK => Ok(read_tick(count)),
+        ERROR => Ok(read_error(value, count)),
+        LOAD => read_load(alloc, value, count),
+        ADD => read_add(alloc, value, count),
+        EXTEND => read_extend(alloc, value, count),
+        DELETE => Ok(read_delete(value, count)),
+        DEPEND => Ok(read_depend(value, count)),
+        AVAILABLE => Ok(read_available(value, count)),
+        INTERVALS => read_replacement(alloc, value, count),
         _ => Ok(read_on_operation(verb, value, count)),
     }
 }

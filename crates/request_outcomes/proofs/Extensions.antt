@@ -68,13 +68,13 @@ module _ (P : Contents) (clock m : ℕ) (q : Request) (at : q.at ≡ pos m) (onw
 
     -- so what comes of it is what the request leads to
     module _ (extension : IsExtension s) (a : Rebuild) where
-      pub extension_rebuild : OnOk a.rebuilt (NoneRefuses (MayBeAdded left s)) → IfOk a.rebuilt (λ x. AreRebuiltPartsOf (with_added left s) m a.shown.contents x.rebuilt_parts) → IfOk a.rebuilt (IsToldOf plan m a.shown.contents)
+      pub extension_rebuild : OnOk a.rebuilt (NoneRefuses (MayBeAdded left s)) → IfOk a.rebuilt (λ x. AreRebuiltPartsOf (with_added left s) m a.records.contents x.rebuilt_parts) → IfOk a.rebuilt (IsToldOf plan m a.records.contents)
           → IfErr a.rebuilt (λ r. (r ≡ refusal.Memory) ⊎ IsLeastRefusal (MayBeAdded left s) r) → IsRebuildOf plan q m a
       extension_rebuild clear rebuilt_parts told stopped = record { rebuilt = good a.rebuilt clear rebuilt_parts told; refused = bad a.rebuilt stopped }
         where
-          good : (r : Result Rebuilt Refusal) → OnOk r (NoneRefuses (MayBeAdded left s)) → IfOk r (λ x. AreRebuiltPartsOf (with_added left s) m a.shown.contents x.rebuilt_parts) → IfOk r (IsToldOf plan m a.shown.contents) → IfOk r (IsRebuiltBy plan q m a.shown.contents)
+          good : (r : Result Rebuilt Refusal) → OnOk r (NoneRefuses (MayBeAdded left s)) → IfOk r (λ x. AreRebuiltPartsOf (with_added left s) m a.records.contents x.rebuilt_parts) → IfOk r (IsToldOf plan m a.records.contents) → IfOk r (IsRebuiltBy plan q m a.records.contents)
           good (Ok x) clear rebuilt_parts told = record {
-            step = accepted_step plan q (left_allows clear) (with_added left s) (left_made extension) m at (plan_held m (Some a.shown.contents)) x.rebuilt_parts.named.items rebuilt_parts.chosen (ap (λ (R : Contents). plan_held m (Some R)) rebuilt_parts.after);
+            step = accepted_step plan q (left_allows clear) (with_added left s) (left_made extension) m at (plan_held m (Some a.records.contents)) x.rebuilt_parts.named.items rebuilt_parts.chosen (ap (λ (R : Contents). plan_held m (Some R)) rebuilt_parts.after);
             changes = told;
             kept = rebuilt_parts.kept;
           }
@@ -87,7 +87,7 @@ module _ (P : Contents) (clock m : ℕ) (q : Request) (at : q.at ≡ pos m) (onw
 
       -- three looks at each record that there was, one at each that is left and four at each that there is then are allowed
       pub extension_looks : IsSound P → (first looks : ℕ) → IsRebuildOf plan q m a → looks ≤ 3 * length (entries P.operations) → (18446744073709551615 ≤ looks) ⊎ (first + length (entries P.operations) ≤ looks)
-          → IfOk a.rebuilt (λ x. a.shown.looks ≤ length (entries left.operations) + 4 * length (entries (with_added left s).operations)) → IfOk a.rebuilt (λ x. length (entries a.shown.contents.operations) ≡ length (entries (with_added left s).operations))
+          → IfOk a.rebuilt (λ x. a.records.looks ≤ length (entries left.operations) + 4 * length (entries (with_added left s).operations)) → IfOk a.rebuilt (λ x. length (entries a.records.contents.operations) ≡ length (entries (with_added left s).operations))
           → AreRebuildLooks P q.what a looks
       extension_looks sound first looks of few least most count = each a.rebuilt refl of.rebuilt most count
         where
@@ -96,12 +96,12 @@ module _ (P : Contents) (clock m : ℕ) (q : Request) (at : q.at ≡ pos m) (onw
               let less : len left.operations ≤ len P.operations = subst (λ (L : Contents). len L.operations ≤ len P.operations) (sym leaves.2) (fewer operation_cmp_total operation_cmp-IsAntisymmetric P.operations (λ o. leaves.0 o.occurrence)) in
               omega (arith, less, len-entries left.operations, len-entries P.operations)
 
-          allowed : a.shown.looks ≤ length (entries left.operations) + 4 * length (entries (with_added left s).operations) → length (entries a.shown.contents.operations) ≡ length (entries (with_added left s).operations) → AreAllowed P q.what a.shown.contents (looks + a.shown.looks)
-          allowed some same = subst (λ (w : What). AreAllowed P w a.shown.contents (looks + a.shown.looks)) (sym is) (λ n allowance.
-              subst (λ z. looks + a.shown.looks ≤ z) (sym allowance) (omega (arith, few, some, same, fewer_left, len-entries P.operations, len-entries a.shown.contents.operations)))
+          allowed : a.records.looks ≤ length (entries left.operations) + 4 * length (entries (with_added left s).operations) → length (entries a.records.contents.operations) ≡ length (entries (with_added left s).operations) → AreAllowed P q.what a.records.contents (looks + a.records.looks)
+          allowed some same = subst (λ (w : What). AreAllowed P w a.records.contents (looks + a.records.looks)) (sym is) (λ n allowance.
+              subst (λ z. looks + a.records.looks ≤ z) (sym allowance) (omega (arith, few, some, same, fewer_left, len-entries P.operations, len-entries a.records.contents.operations)))
 
-          each : (r : Result Rebuilt Refusal) → a.rebuilt ≡ r → IfOk r (IsRebuiltBy plan q m a.shown.contents) → IfOk r (λ x. a.shown.looks ≤ length (entries left.operations) + 4 * length (entries (with_added left s).operations))
-              → IfOk r (λ x. length (entries a.shown.contents.operations) ≡ length (entries (with_added left s).operations)) → IfOk a.rebuilt (λ x. AreAllowed P q.what a.shown.contents (looks + a.shown.looks) × CoverRows P x.changes.rows.items looks)
-          each (Ok x) same by some count = subst (λ r. IfOk r (λ (x : Rebuilt). AreAllowed P q.what a.shown.contents (looks + a.shown.looks) × CoverRows P x.changes.rows.items looks)) (sym same)
+          each : (r : Result Rebuilt Refusal) → a.rebuilt ≡ r → IfOk r (IsRebuiltBy plan q m a.records.contents) → IfOk r (λ x. a.records.looks ≤ length (entries left.operations) + 4 * length (entries (with_added left s).operations))
+              → IfOk r (λ x. length (entries a.records.contents.operations) ≡ length (entries (with_added left s).operations)) → IfOk a.rebuilt (λ x. AreAllowed P q.what a.records.contents (looks + a.records.looks) × CoverRows P x.changes.rows.items looks)
+          each (Ok x) same by some count = subst (λ r. IfOk r (λ (x : Rebuilt). AreAllowed P q.what a.records.contents (looks + a.records.looks) × CoverRows P x.changes.rows.items looks)) (sym same)
               (allowed some count, whole_covers P first looks x.changes.rows.items sound by.changes.rows_ascend least)
-          each (Err r) same by some count = subst (λ r. IfOk r (λ (x : Rebuilt). AreAllowed P q.what a.shown.contents (looks + a.shown.looks) × CoverRows P x.changes.rows.items looks)) (sym same) tt
+          each (Err r) same by some count = subst (λ r. IfOk r (λ (x : Rebuilt). AreAllowed P q.what a.records.contents (looks + a.records.looks) × CoverRows P x.changes.rows.items looks)) (sym same) tt

@@ -9,7 +9,7 @@ use Rattle.std.specs.List.Sorted.{IsStrictlySortedBy}
 use Rattle.std.specs.Map.{keys_of}
 use Rattle.plan_basics.specs.Keys.{occurrence_cmp, occurrence_cmp_total, occurrence_cmp-IsAntisymmetric}
 use Rattle.plan_basics.specs.declared.keys.OccKey.{OccKey}
-use Rattle.request_outcomes.specs.Leaving.{is_over}
+use Rattle.status_rules.specs.Classes.{is_over}
 use Rattle.plan_records.specs.Changes.{IsOver}
 use Rattle.plan_drafts.proofs.Tables.{get_row, is_found, row_found, rows_apart, some_is}
 use Rattle.plan_model.proofs.Entries.{entries_are}

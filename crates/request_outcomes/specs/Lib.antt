@@ -1,6 +1,5 @@
 pub use Rattle.small_requests.specs.plan_checks
 pub use Rattle.small_requests
-pub mod Leaving
 pub mod Next
 pub mod Looked
 pub mod AcceptedOutcomes

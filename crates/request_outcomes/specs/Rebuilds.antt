@@ -22,7 +22,7 @@ use Rattle.plan_model.specs.Ready.{IsChosen, named}
 use Rattle.small_requests.specs.start_choice.specs.Choices.{AreLatestStarts}
 use Rattle.small_requests.specs.derived_figures.specs.Figures.{AreFigures}
 use Rattle.small_requests.specs.plan_rows.specs.Kept.{KeepsRecords}
-use Rattle.small_requests.specs.plan_rows.specs.Shown.{IsShownIfAny, contents_shown, plan_shown, source_if_any}
+use Rattle.small_requests.specs.plan_rows.specs.Sources.{IsSourceIfAny, contents_if_any, plan_if_any, source_if_any}
 use Rattle.small_requests.specs.plan_rows.specs.declared.row_sources.PlanBefore.{PlanBefore}
 
 -- what is kept is of a plan that holds R
@@ -39,16 +39,16 @@ pub record AreRebuiltPartsOf (Q : Contents) (m : ℕ) (R : Contents) (s : Rebuil
 
 -- what the plan before held, of which this is kept; nothing where none was loaded
 abbrev pub contents_before : PlanBefore → Contents
-contents_before b = contents_shown (source_if_any b.loaded)
+contents_before b = contents_if_any (source_if_any b.loaded)
 
 -- P is the plan before
 abbrev pub IsPlanBefore : ChangeBase → Plan → Type 0
-IsPlanBefore (Kept b) P = P ≡ plan_shown b.now.clock (source_if_any b.now.loaded)
+IsPlanBefore (Kept b) P = P ≡ plan_if_any b.now.clock (source_if_any b.now.loaded)
 IsPlanBefore (Listed rows) P = AreRows P rows.now
 
 -- it may be told what changes from the plan before to one that holds R: what is kept is the plan's and R keeps its operations, or its rows are in key order
 abbrev pub IsChangeBase : ChangeBase → Contents → Type 0
-IsChangeBase (Kept b) R = IsShownIfAny (source_if_any b.now.loaded) × KeepsRecords (contents_before b.now) R
+IsChangeBase (Kept b) R = IsSourceIfAny (source_if_any b.now.loaded) × KeepsRecords (contents_before b.now) R
 IsChangeBase (Listed rows) R = IsStrictlySortedBy row_cmp (map key_of rows.now)
 
 -- so once what is chosen at minute m of Q is named
@@ -72,9 +72,9 @@ pub record IsRebuiltBy (P : Plan) (request : Request) (m : ℕ) (R : Contents) (
 
 -- it does so, or it is refused, or for want of memory it doesn't
 pub record IsRebuildOf (P : Plan) (request : Request) (m : ℕ) (a : Rebuild) : Type 0 where
-  pub rebuilt : IfOk a.rebuilt (IsRebuiltBy P request m a.shown.contents)
+  pub rebuilt : IfOk a.rebuilt (IsRebuiltBy P request m a.records.contents)
   pub refused : IfErr a.rebuilt (λ r. (r ≡ Memory) ⊎ Step P request (refused r) P)
 
 -- so many looks at the plan that holds P may be taken for it, beside those at the plan that was made anew
 abbrev pub AreRebuildLooks : Contents → What → Rebuild → ℕ → Type 0
-AreRebuildLooks P w a looks = IfOk a.rebuilt (λ x. AreAllowed P w a.shown.contents (looks + a.shown.looks) × CoverRows P x.changes.rows.items looks)
+AreRebuildLooks P w a looks = IfOk a.rebuilt (λ x. AreAllowed P w a.records.contents (looks + a.records.looks) × CoverRows P x.changes.rows.items looks)

@@ -26,7 +26,7 @@ use operation_graph::Graph;
 use plan_basics::{Moment, Refusal};
 use plan_drafts::{Extension, ExtensionParts};
 use plan_records::PlanRow;
-use small_requests::{CountedRecords, DerivedRefs, check_shown, columns_of, rows_of};
+use small_requests::{CountedRecords, DerivedRefs, check_records, columns_of, rows_of};
 use std::alloc::Global;
 
 // What is left of a plan with what is added, in whose way nothing stands, and the graph of both; or that no memory is found.
@@ -43,13 +43,13 @@ fn joined(
     ensures refused { IfErr result.1 (λ r. r ≡ Refusal.Memory) }
 {
     left.uncounted().are_sound();
-    let (shown, added) = left.with_addition(alloc, parts);
+    let (records, added) = left.with_addition(alloc, parts);
     if added.is_err() {
-        return (shown, Err(Refusal::Memory));
+        return (records, Err(Refusal::Memory));
     }
-    match shown.uncounted().graph(alloc) {
-        Ok(graph) => (shown, Ok(graph)),
-        Err(_) => (shown, Err(Refusal::Memory)),
+    match records.uncounted().graph(alloc) {
+        Ok(graph) => (records, Ok(graph)),
+        Err(_) => (records, Err(Refusal::Memory)),
     }
 }
 
@@ -65,16 +65,16 @@ fn grown(
     requires in_order { IsStrictlySortedBy row_cmp (map key_of rows.now) }
     requires parts { AreExtensionParts parts.now }
     requires clear { NoneRefuses (MayBeAdded left.contents (added_of parts.now)) }
-    ensures rebuilt_parts { IfOk result.rebuilt (λ x. AreRebuiltPartsOf (with_added left.contents (added_of parts.now)) at result.shown.contents x.rebuilt_parts) }
-    ensures told { IfOk result.rebuilt (λ x. (P : Plan) → AreRows P rows.now → IsToldOf P at result.shown.contents x) }
-    ensures most { IfOk result.rebuilt (λ x. result.shown.looks ≤ left.looks + 4 * length (entries (with_added left.contents (added_of parts.now)).operations)) }
+    ensures rebuilt_parts { IfOk result.rebuilt (λ x. AreRebuiltPartsOf (with_added left.contents (added_of parts.now)) at result.records.contents x.rebuilt_parts) }
+    ensures told { IfOk result.rebuilt (λ x. (P : Plan) → AreRows P rows.now → IsToldOf P at result.records.contents x) }
+    ensures most { IfOk result.rebuilt (λ x. result.records.looks ≤ left.looks + 4 * length (entries (with_added left.contents (added_of parts.now)).operations)) }
     ensures refused { IfErr result.rebuilt (λ r. r ≡ Refusal.Memory) }
 {
-    let (shown, graph) = joined(alloc, left, parts);
+    let (records, graph) = joined(alloc, left, parts);
     match graph {
-        Ok(graph) => rebuilt_plan(alloc, &ChangeBase::Listed(rows), shown, graph, at),
+        Ok(graph) => rebuilt_plan(alloc, &ChangeBase::Listed(rows), records, graph, at),
         Err(refusal) => Rebuild {
-            shown,
+            records,
             rebuilt: Err(refusal),
         },
     }
@@ -94,46 +94,46 @@ fn extended(
     requires graph { IsGraphFor left.copy left.graph }
     requires parts { AreExtensionParts parts.now }
     ensures clear { OnOk result.rebuilt (NoneRefuses (MayBeAdded left.copy (added_of parts.now))) }
-    ensures rebuilt_parts { IfOk result.rebuilt (λ x. AreRebuiltPartsOf (with_added left.copy (added_of parts.now)) at result.shown.contents x.rebuilt_parts) }
-    ensures told { IfOk result.rebuilt (λ x. (P : Plan) → AreRows P rows.now → IsToldOf P at result.shown.contents x) }
-    ensures most { IfOk result.rebuilt (λ x. result.shown.looks ≤ length (entries left.copy.operations) + 4 * length (entries (with_added left.copy (added_of parts.now)).operations)) }
+    ensures rebuilt_parts { IfOk result.rebuilt (λ x. AreRebuiltPartsOf (with_added left.copy (added_of parts.now)) at result.records.contents x.rebuilt_parts) }
+    ensures told { IfOk result.rebuilt (λ x. (P : Plan) → AreRows P rows.now → IsToldOf P at result.records.contents x) }
+    ensures most { IfOk result.rebuilt (λ x. result.records.looks ≤ length (entries left.copy.operations) + 4 * length (entries (with_added left.copy (added_of parts.now)).operations)) }
     ensures refused { IfErr result.rebuilt (λ r. (r ≡ Refusal.Memory) ⊎ IsLeastRefusal (MayBeAdded left.copy (added_of parts.now)) r) }
 {
     let RemainingPlan { copy, graph } = left;
-    let mut shown = copy.into_shown();
-    match check_shown(alloc, &mut shown, &graph, parts) {
-        Ok(()) => grown(alloc, rows, shown, parts, at),
+    let mut records = copy.into_counted();
+    match check_records(alloc, &mut records, &graph, parts) {
+        Ok(()) => grown(alloc, rows, records, parts, at),
         Err(refusal) => Rebuild {
-            shown,
+            records,
             rebuilt: Err(refusal),
         },
     }
 }
 
-/// What an extension that is made at a moment leads to in a plan, of which this is shown and nothing was looked at; or the least refusal
+/// What an extension that is made at a moment leads to in a plan, none of whose records was looked at; or the least refusal
 /// that applies, or that no memory is found. All rows of the plan are listed by two looks at each record, and each is copied by one;
-/// what is over leaves the copy, in which what is added is judged and worked out, and each record is shown by a look too.
+/// what is over leaves the copy, in which what is added is judged and worked out, by a look at each record too.
 pub fn extended_outcome(
     alloc: Global,
-    shown: &mut CountedRecords,
+    records: &mut CountedRecords,
     derived: DerivedRefs<'_>,
     asked: &DatedRequest<'_>,
     extension: &Option<Extension>,
 ) -> Result<Rebuild, Refusal>
-    requires derived { AreDerivedOf shown.old.contents derived }
+    requires derived { AreDerivedOf records.old.contents derived }
     requires moment { IsMoment asked.now.at }
     requires at { asked.now.request.now.at ≡ pos asked.now.at }
     requires onward { pos asked.now.clock ≤ℤ asked.now.request.now.at }
     requires is { asked.now.request.now.what ≡ what.Extend extension.now }
-    requires none { shown.old.looks ≡ 0 }
-    ensures contents { shown.new.contents ≡ shown.old.contents }
-    ensures rebuild { IfOk result (IsRebuildOf (plan_asked shown.old.contents asked.now) asked.now.request.now asked.now.at) }
-    ensures looked { IfOk result (λ a. AreRebuildLooks shown.old.contents asked.now.request.now.what a shown.new.looks) }
-    ensures refused { IfErr result (λ r. (r ≡ Refusal.Memory) ⊎ Step (plan_asked shown.old.contents asked.now) asked.now.request.now (refused r) (plan_asked shown.old.contents asked.now)) }
+    requires none { records.old.looks ≡ 0 }
+    ensures contents { records.new.contents ≡ records.old.contents }
+    ensures rebuild { IfOk result (IsRebuildOf (plan_asked records.old.contents asked.now) asked.now.request.now asked.now.at) }
+    ensures looked { IfOk result (λ a. AreRebuildLooks records.old.contents asked.now.request.now.what a records.new.looks) }
+    ensures refused { IfErr result (λ r. (r ≡ Refusal.Memory) ⊎ Step (plan_asked records.old.contents asked.now) asked.now.request.now (refused r) (plan_asked records.old.contents asked.now)) }
 {
     let extension = extension.as_ref().ok_or(Refusal::BadPlan)?;
-    shown.uncounted().are_sound();
-    let rows = rows_of(alloc, shown, columns_of(derived), asked.clock)?;
-    let left = remaining_of(alloc, shown, derived)?;
+    records.uncounted().are_sound();
+    let rows = rows_of(alloc, records, columns_of(derived), asked.clock)?;
+    let left = remaining_of(alloc, records, derived)?;
     Ok(extended(alloc, &rows, left, extension.parts(), asked.at))
 }

@@ -67,7 +67,7 @@ fn loaded_first(
         loaded: None,
     };
     let kept = ChangeBase::Kept(&before);
-    Ok(rebuilt_plan(alloc, &kept, copy.into_shown(), graph, at))
+    Ok(rebuilt_plan(alloc, &kept, copy.into_counted(), graph, at))
 }
 
 /// What a request that is made at a moment leads to where no plan is loaded; or the least refusal that applies, or that no memory

@@ -1,4 +1,4 @@
-//! What a request leads to in a plan that is shown, or where none is loaded. No part of this has a permit: what shows a plan's records is
+//! What a request leads to in a plan, by its counted records, or where none is loaded. No part of this has a permit: the records are
 //! handed in and handed back, so that each look counts.
 #![tactic(auto)]
 

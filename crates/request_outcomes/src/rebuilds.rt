@@ -1,4 +1,4 @@
-// A plan that is made anew: what it holds is shown, and what is kept of it stands beside that.
+// A plan that is made anew: its records are counted, and what is kept of it stands beside them.
 ghost use Rattle.std.specs.Prelude.{◌≡◌, ◌+◌, ◌*◌, ◌≤◌, IfErr, IfOk, Some, length};
 ghost use Rattle.std.specs.FinMap.{entries};
 ghost use Rattle.plan_basics.specs.declared.Refusal.{Refusal};
@@ -6,7 +6,7 @@ ghost use Rattle.request_outcomes.specs.Rebuilds.{IsChangeBase, IsChangeBaseOnce
 ghost use Rattle.plan_records.specs.Rows.{AreChanges};
 ghost use Rattle.plan_drafts.specs.PlanGraphs.{IsGraphFor};
 ghost use Rattle.plan_model.specs.Plan.{Plan, plan_held};
-ghost use Rattle.small_requests.specs.plan_rows.specs.Shown.{IsShown, shown_with};
+ghost use Rattle.small_requests.specs.plan_rows.specs.Sources.{IsSource, source_with};
 
 use super::rebuilt_parts::{RebuiltParts, rebuild_parts};
 use operation_graph::Graph;
@@ -34,91 +34,91 @@ pub struct Rebuilt {
     pub changes: Changes,
 }
 
-/// A plan that was made anew, shown, and what comes of it. It can't be let go: what shows the plan has to be taken apart, and its looks
-/// count.
+/// The records of a plan that was made anew, and what comes of it. It can't be let go: the records have to be taken apart, and their
+/// looks count.
 pub struct Rebuild {
-    pub shown: CountedRecords,
+    pub records: CountedRecords,
     pub rebuilt: Result<Rebuilt, Refusal>,
 }
 
-// Which rows change from the plan before to what is shown, at this moment. It takes two looks at each operation at most, but for one at
-// each that is kept.
+// Which rows change from the plan before to that of these records, at this moment. It takes two looks at each operation at most, but for
+// one at each that is kept.
 fn changes_from(
     alloc: Global,
     before: &ChangeBase<'_>,
-    shown: &mut CountedRecords,
+    records: &mut CountedRecords,
     columns: SourceColumns<'_>,
     at: Moment,
 ) -> Result<Changes, AllocError>
-    requires before { IsChangeBase before.now shown.old.contents }
-    requires shown { IsShown (shown_with shown.old.contents columns) }
-    ensures changes { IfOk result (λ c. (P : Plan) → IsPlanBefore before.now P → AreChanges P (plan_held at (Some shown.old.contents)) c.rows.items c.gone.items) }
-    ensures contents { shown.new.contents ≡ shown.old.contents }
-    ensures most { IfOk result (λ c. shown.new.looks + seen_before before.now ≤ shown.old.looks + 2 * length (entries shown.old.contents.operations)) }
+    requires before { IsChangeBase before.now records.old.contents }
+    requires source { IsSource (source_with records.old.contents columns) }
+    ensures changes { IfOk result (λ c. (P : Plan) → IsPlanBefore before.now P → AreChanges P (plan_held at (Some records.old.contents)) c.rows.items c.gone.items) }
+    ensures contents { records.new.contents ≡ records.old.contents }
+    ensures most { IfOk result (λ c. records.new.looks + seen_before before.now ≤ records.old.looks + 2 * length (entries records.old.contents.operations)) }
 {
     match before {
-        ChangeBase::Kept(before) => changes_between(alloc, *before, shown, columns, at),
+        ChangeBase::Kept(before) => changes_between(alloc, *before, records, columns, at),
         ChangeBase::Listed(rows) => {
-            let new = rows_of(alloc, shown, columns, at)?;
+            let new = rows_of(alloc, records, columns, at)?;
             changed_rows(alloc, *rows, &new)
         }
     }
 }
 
-// What comes of what is shown, in which what is named is marked so and of which this is kept: which rows change from the plan before, at
-// this moment. It takes two looks at each operation at most, but for one at each that is kept. The error is always `Memory`.
+// What comes of these records, in which what is named is marked so and of whose plan this is kept: which rows change from the plan
+// before, at this moment. It takes two looks at each operation at most, but for one at each that is kept. The error is always `Memory`.
 fn told(
     alloc: Global,
     before: &ChangeBase<'_>,
-    shown: &mut CountedRecords,
+    records: &mut CountedRecords,
     rebuilt_parts: RebuiltParts,
     at: Moment,
 ) -> Result<Rebuilt, Refusal>
-    requires before { IsChangeBase before.now shown.old.contents }
-    requires kept { ArePartsOf shown.old.contents rebuilt_parts }
+    requires before { IsChangeBase before.now records.old.contents }
+    requires kept { ArePartsOf records.old.contents rebuilt_parts }
     ensures rebuilt_parts { IfOk result (λ x. x.rebuilt_parts ≡ rebuilt_parts) }
-    ensures told { IfOk result (λ x. (P : Plan) → IsPlanBefore before.now P → IsToldOf P at shown.old.contents x) }
-    ensures contents { shown.new.contents ≡ shown.old.contents }
-    ensures most { IfOk result (λ x. shown.new.looks + seen_before before.now ≤ shown.old.looks + 2 * length (entries shown.old.contents.operations)) }
+    ensures told { IfOk result (λ x. (P : Plan) → IsPlanBefore before.now P → IsToldOf P at records.old.contents x) }
+    ensures contents { records.new.contents ≡ records.old.contents }
+    ensures most { IfOk result (λ x. records.new.looks + seen_before before.now ≤ records.old.looks + 2 * length (entries records.old.contents.operations)) }
     ensures refused { IfErr result (λ r. r ≡ Refusal.Memory) }
 {
-    shown.uncounted().are_sound();
+    records.uncounted().are_sound();
     let derived = DerivedRefs {
         graph: &rebuilt_parts.graph,
         latest: &rebuilt_parts.latest,
         figures: &rebuilt_parts.figures,
     };
-    let changes = changes_from(alloc, before, shown, columns_of(derived), at)?;
+    let changes = changes_from(alloc, before, records, columns_of(derived), at)?;
     Ok(Rebuilt {
         rebuilt_parts,
         changes,
     })
 }
 
-/// What comes at a moment of what is shown, which was made anew of the plan before and has this graph. It takes four looks at each
+/// What comes at a moment of these records, made anew of the plan before, whose plan has this graph. It takes four looks at each
 /// operation at most, but for one at each that is kept.
 pub fn rebuilt_plan(
     alloc: Global,
     before: &ChangeBase<'_>,
-    shown: CountedRecords,
+    records: CountedRecords,
     graph: Graph,
     at: Moment,
 ) -> Rebuild
-    requires before { IsChangeBaseOnceNamed before.now shown.contents at }
-    requires graph { IsGraphFor shown.contents graph }
-    ensures rebuilt_parts { IfOk result.rebuilt (λ x. AreRebuiltPartsOf shown.contents at result.shown.contents x.rebuilt_parts) }
-    ensures told { IfOk result.rebuilt (λ x. (P : Plan) → IsPlanBefore before.now P → IsToldOf P at result.shown.contents x) }
-    ensures most { IfOk result.rebuilt (λ x. result.shown.looks + seen_before before.now ≤ shown.looks + 4 * length (entries shown.contents.operations)) }
+    requires before { IsChangeBaseOnceNamed before.now records.contents at }
+    requires graph { IsGraphFor records.contents graph }
+    ensures rebuilt_parts { IfOk result.rebuilt (λ x. AreRebuiltPartsOf records.contents at result.records.contents x.rebuilt_parts) }
+    ensures told { IfOk result.rebuilt (λ x. (P : Plan) → IsPlanBefore before.now P → IsToldOf P at result.records.contents x) }
+    ensures most { IfOk result.rebuilt (λ x. result.records.looks + seen_before before.now ≤ records.looks + 4 * length (entries records.contents.operations)) }
     ensures refused { IfErr result.rebuilt (λ r. r ≡ Refusal.Memory) }
 {
-    let (mut shown, rebuilt_parts) = rebuild_parts(alloc, shown, graph, at);
+    let (mut records, rebuilt_parts) = rebuild_parts(alloc, records, graph, at);
     match rebuilt_parts {
         Ok(rebuilt_parts) => {
-            let rebuilt = told(alloc, before, &mut shown, rebuilt_parts, at);
-            Rebuild { shown, rebuilt }
+            let rebuilt = told(alloc, before, &mut records, rebuilt_parts, at);
+            Rebuild { records, rebuilt }
         }
         Err(refusal) => Rebuild {
-            shown,
+            records,
             rebuilt: Err(refusal),
         },
     }

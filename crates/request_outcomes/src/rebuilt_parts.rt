@@ -23,20 +23,20 @@ pub struct RebuiltParts {
     pub figures: Figures,
 }
 
-// What is shown, with what is named marked so, where this was worked out of it. The error is always `Memory`.
+// The records, with what is named marked so, where this was worked out of them. The error is always `Memory`.
 fn rebuilt_by(
     alloc: Global,
-    shown: CountedRecords,
+    records: CountedRecords,
     graph: Graph,
     derived_afresh: DerivedAfresh,
     at: Moment,
 ) -> (CountedRecords, Result<RebuiltParts, Refusal>)
-    requires graph { IsGraphFor shown.contents graph }
-    requires derived_afresh { IsDerivedAfresh shown.contents derived_afresh }
-    ensures chosen { IfOk result.1 (λ s. IsChosen shown.contents at s.named.items) }
-    ensures contents { IfOk result.1 (λ s. result.0.contents ≡ named s.named.items shown.contents) }
+    requires graph { IsGraphFor records.contents graph }
+    requires derived_afresh { IsDerivedAfresh records.contents derived_afresh }
+    ensures chosen { IfOk result.1 (λ s. IsChosen records.contents at s.named.items) }
+    ensures contents { IfOk result.1 (λ s. result.0.contents ≡ named s.named.items records.contents) }
     ensures kept { IfOk result.1 (ArePartsOf result.0.contents) }
-    ensures most { IfOk result.1 (λ s. result.0.looks ≤ shown.looks + length derived_afresh.figures.ready.entries) }
+    ensures most { IfOk result.1 (λ s. result.0.looks ≤ records.looks + length derived_afresh.figures.ready.entries) }
     ensures refused { IfErr result.1 (λ r. r ≡ Refusal.Memory) }
 {
     let DerivedAfresh {
@@ -50,7 +50,9 @@ fn rebuilt_by(
         latest: &latest,
         at,
     };
-    let (shown, rebuilt_parts) = small_requests::name_afresh(&context, shown, figures, &summaries);
+    let (records, rebuilt_parts) = small_requests::name_afresh(
+        &context, records, figures, &summaries,
+    );
     match rebuilt_parts {
         Ok(rebuilt_parts) => {
             let rebuilt_parts = RebuiltParts {
@@ -59,30 +61,30 @@ fn rebuilt_by(
                 latest,
                 figures: rebuilt_parts.figures,
             };
-            (shown, Ok(rebuilt_parts))
+            (records, Ok(rebuilt_parts))
         }
-        Err(refusal) => (shown, Err(refusal)),
+        Err(refusal) => (records, Err(refusal)),
     }
 }
 
-/// What comes at a moment of what is shown, which was made anew and has this graph: all that is kept is worked out once, and the
+/// What comes at a moment of these records, which were made anew, with this graph: all that is kept is worked out once, and the
 /// operations that are named then are marked so. It takes two looks at each operation at most. The error is always `Memory`.
 pub fn rebuild_parts(
     alloc: Global,
-    shown: CountedRecords,
+    records: CountedRecords,
     graph: Graph,
     at: Moment,
 ) -> (CountedRecords, Result<RebuiltParts, Refusal>)
-    requires { IsGraphFor shown.contents graph }
-    ensures chosen { IfOk result.1 (λ s. IsChosen shown.contents at s.named.items) }
-    ensures contents { IfOk result.1 (λ s. result.0.contents ≡ named s.named.items shown.contents) }
+    requires { IsGraphFor records.contents graph }
+    ensures chosen { IfOk result.1 (λ s. IsChosen records.contents at s.named.items) }
+    ensures contents { IfOk result.1 (λ s. result.0.contents ≡ named s.named.items records.contents) }
     ensures kept { IfOk result.1 (ArePartsOf result.0.contents) }
-    ensures most { IfOk result.1 (λ s. result.0.looks ≤ shown.looks + 2 * length (entries shown.contents.operations)) }
+    ensures most { IfOk result.1 (λ s. result.0.looks ≤ records.looks + 2 * length (entries records.contents.operations)) }
     ensures refused { IfErr result.1 (λ r. r ≡ Refusal.Memory) }
 {
-    let mut shown = shown;
-    match derived_afresh(alloc, &mut shown, &graph) {
-        Ok(derived_afresh) => rebuilt_by(alloc, shown, graph, derived_afresh, at),
-        Err(refusal) => (shown, Err(refusal)),
+    let mut records = records;
+    match derived_afresh(alloc, &mut records, &graph) {
+        Ok(derived_afresh) => rebuilt_by(alloc, records, graph, derived_afresh, at),
+        Err(refusal) => (records, Err(refusal)),
     }
 }

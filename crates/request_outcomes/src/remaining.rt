@@ -6,7 +6,6 @@ ghost use Rattle.std.specs.Map.{keys_of};
 ghost use Rattle.plan_basics.specs.Keys.{occurrence_cmp};
 ghost use Rattle.plan_basics.specs.declared.Refusal.{Refusal};
 ghost use Rattle.plan_basics.specs.declared.keys.OccKey.{OccKey as OccKeyValue};
-ghost use Rattle.request_outcomes.specs.Leaving.{is_over};
 ghost use Rattle.plan_records.specs.Changes.{IsOver, LeavesOver, with_only};
 ghost use Rattle.plan_drafts.specs.PlanGraphs.{IsGraphFor};
 ghost use Rattle.plan_model.specs.Valid.{IsSound};
@@ -19,7 +18,6 @@ use plan_model::Occurrence;
 use small_requests::{
     CountedRecords, DerivedRefs, Outline, RecordCopy, UncountedContents, is_one_of,
 };
-use status_rules::OccStatus;
 use std::alloc::{AllocError, Global};
 
 /// What is left of a plan, copied, and its graph.
@@ -29,20 +27,13 @@ pub struct RemainingPlan {
     pub graph: Graph,
 }
 
-// Whether an occurrence of this status is complete or deleted.
-fn is_over(status: &OccStatus) -> bool
-    ensures { result ≡ is_over status.now }
-{
-    matches!(status, OccStatus::Complete | OccStatus::Deleted)
-}
-
 // Whether an occurrence is in the plan and stays there.
 fn stays(outline: &Outline<'_>, key: &OccKey) -> bool
     ensures { Decides result (¬ IsOver outline.now key.now) }
 {
     outline.uncounted().are_sound();
     match outline.occurrence_status(key) {
-        Some(status) => !is_over(&status),
+        Some(status) => !status.is_over(),
         None => false,
     }
 }
@@ -98,25 +89,25 @@ fn graph_left(
     Ok(graph)
 }
 
-/// What is left of what is shown, of which this is kept, once the occurrences that are complete or deleted have left, all together: by a
-/// look at each record. The error is always `Memory`.
+/// What is left of these records, of whose plan this is kept, once the occurrences that are complete or deleted have left, all together: by
+/// a look at each record. The error is always `Memory`.
 pub fn remaining_of(
     alloc: Global,
-    shown: &mut CountedRecords,
+    records: &mut CountedRecords,
     derived: DerivedRefs<'_>,
 ) -> Result<RemainingPlan, Refusal>
-    requires { AreDerivedOf shown.old.contents derived }
-    ensures left { IfOk result (λ x. LeavesOver shown.old.contents x.copy) }
+    requires { AreDerivedOf records.old.contents derived }
+    ensures left { IfOk result (λ x. LeavesOver records.old.contents x.copy) }
     ensures graph { IfOk result (λ x. IsGraphFor x.copy x.graph) }
-    ensures contents { shown.new.contents ≡ shown.old.contents }
-    ensures most { shown.new.looks ≤ shown.old.looks + length (entries shown.old.contents.operations) }
-    ensures least { OnOk result ((18446744073709551615 ≤ shown.new.looks) ⊎ (shown.old.looks + length (entries shown.old.contents.operations) ≤ shown.new.looks)) }
-    ensures sound { OnOk result (IsSound shown.old.contents) }
+    ensures contents { records.new.contents ≡ records.old.contents }
+    ensures most { records.new.looks ≤ records.old.looks + length (entries records.old.contents.operations) }
+    ensures least { OnOk result ((18446744073709551615 ≤ records.new.looks) ⊎ (records.old.looks + length (entries records.old.contents.operations) ≤ records.new.looks)) }
+    ensures sound { OnOk result (IsSound records.old.contents) }
     ensures refused { IfErr result (λ r. r ≡ Refusal.Memory) }
 {
-    let staying = staying(alloc, &Outline::of(shown.uncounted(), derived))?;
-    let graph = graph_left(alloc, &shown.uncounted(), derived.graph, &staying)?;
-    let copy = shown.copied(alloc)?;
+    let staying = staying(alloc, &Outline::of(records.uncounted(), derived))?;
+    let graph = graph_left(alloc, &records.uncounted(), derived.graph, &staying)?;
+    let copy = records.copied(alloc)?;
     let left = copy.with_only(alloc, &staying)?;
     Ok(RemainingPlan { copy: left, graph })
 }

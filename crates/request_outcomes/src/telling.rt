@@ -19,25 +19,25 @@ use std::alloc::Global;
 /// told by a look at each row that was noted. The error is always `Memory`.
 pub fn told(
     alloc: Global,
-    shown: &mut CountedRecords,
+    records: &mut CountedRecords,
     derived: DerivedRefs<'_>,
     asked: &DatedRequest<'_>,
     edit: Edit,
     step: SmallStep,
 ) -> Result<AcceptedOutcome, Refusal>
-    requires derived { AreDerivedOf shown.old.contents derived }
-    requires acceptable { IsAcceptable shown.old.contents asked.now }
+    requires derived { AreDerivedOf records.old.contents derived }
+    requires acceptable { IsAcceptable records.old.contents asked.now }
     requires small { IsSmall asked.now.request.now.what }
-    requires trial { (first : ℕ) × first ≤ 1 × IsTrialOf shown.old.contents asked.now.request.now.what asked.now.at first shown.old.looks edit step }
-    ensures contents { shown.new.contents ≡ shown.old.contents }
-    ensures outcome { IfOk result (IsAcceptedOutcomeFor shown.old.contents asked.now) }
-    ensures looked { IfOk result (λ x. AreLooksTo shown.old.contents asked.now.request.now.what x shown.new.looks) }
+    requires trial { (first : ℕ) × first ≤ 1 × IsTrialOf records.old.contents asked.now.request.now.what asked.now.at first records.old.looks edit step }
+    ensures contents { records.new.contents ≡ records.old.contents }
+    ensures outcome { IfOk result (IsAcceptedOutcomeFor records.old.contents asked.now) }
+    ensures looked { IfOk result (λ x. AreLooksTo records.old.contents asked.now.request.now.what x records.new.looks) }
     ensures refused { IfErr result (λ r. r ≡ Refusal.Memory) }
 {
     small_steps_look_few();
     let columns = columns_of(derived);
     let DatedRequest { clock, at, .. } = *asked;
-    let changes = noted_changes(alloc, shown, columns, clock, at, &step.notes)?;
+    let changes = noted_changes(alloc, records, columns, clock, at, &step.notes)?;
     let Edit { keys, revision, .. } = edit;
     let SmallStep {
         named,

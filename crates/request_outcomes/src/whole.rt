@@ -20,7 +20,7 @@ use small_requests::{
 };
 use std::alloc::Global;
 
-// What comes of what is shown, which a request that isn't small and extends nothing, and in whose way nothing stands, made anew of the
+// What comes of these records, which a request that isn't small and extends nothing, and in whose way nothing stands, made anew of the
 // plan beside whose records this stands. It takes four looks at each operation at most, but for one at each that there was before.
 fn rebuild_of(
     alloc: Global,
@@ -35,8 +35,8 @@ fn rebuild_of(
     requires stays { ¬ Extends asked.now.request.now.what }
     requires made { AreMadeBy uncounted.now.contents.now asked.now.request.now.what new.contents }
     ensures rebuild { IsRebuildOf (plan_asked uncounted.now.contents.now asked.now) asked.now.request.now asked.now.at result }
-    ensures operations { IfOk result.rebuilt (λ x. length (entries result.shown.contents.operations) ≡ length (entries new.contents.operations)) }
-    ensures most { IfOk result.rebuilt (λ x. result.shown.looks + length (entries uncounted.now.contents.now.operations) ≤ new.looks + 4 * length (entries new.contents.operations)) }
+    ensures operations { IfOk result.rebuilt (λ x. length (entries result.records.contents.operations) ≡ length (entries new.contents.operations)) }
+    ensures most { IfOk result.rebuilt (λ x. result.records.looks + length (entries uncounted.now.contents.now.operations) ≤ new.looks + 4 * length (entries new.contents.operations)) }
 {
     uncounted.are_sound();
     let DatedRequest { clock, request, at } = *asked;
@@ -56,34 +56,40 @@ fn rebuild_of(
     ) {
         Ok(graph) => rebuilt_plan(alloc, &ChangeBase::Kept(&before), new, graph, at),
         Err(refusal) => Rebuild {
-            shown: new,
+            records: new,
             rebuilt: Err(refusal),
         },
     }
 }
 
-/// What a request that isn't small and extends nothing, and in whose way nothing stands, leads to in a plan, of which this is shown
-/// and one record at most was looked at: each record is copied by a look, and all is worked out over the copy, of which each record
-/// is shown by a look too. The error is always `Memory`.
+/// What a request that isn't small and extends nothing, and in whose way nothing stands, leads to in a plan, of whose records one
+/// at most was looked at: each record is copied by a look, and all is worked out over the copy, by a look at each of its records too.
+/// The error is always `Memory`.
 pub fn whole_outcome(
     alloc: Global,
-    shown: &mut CountedRecords,
+    records: &mut CountedRecords,
     derived: DerivedRefs<'_>,
     asked: &DatedRequest<'_>,
 ) -> Result<Rebuild, Refusal>
-    requires derived { AreDerivedOf shown.old.contents derived }
-    requires acceptable { IsAcceptable shown.old.contents asked.now }
+    requires derived { AreDerivedOf records.old.contents derived }
+    requires acceptable { IsAcceptable records.old.contents asked.now }
     requires whole { ¬ IsSmall asked.now.request.now.what }
     requires stays { ¬ Extends asked.now.request.now.what }
-    requires few { shown.old.looks ≤ 1 }
-    ensures contents { shown.new.contents ≡ shown.old.contents }
-    ensures rebuild { IfOk result (IsRebuildOf (plan_asked shown.old.contents asked.now) asked.now.request.now asked.now.at) }
-    ensures looked { IfOk result (λ a. AreRebuildLooks shown.old.contents asked.now.request.now.what a shown.new.looks) }
+    requires few { records.old.looks ≤ 1 }
+    ensures contents { records.new.contents ≡ records.old.contents }
+    ensures rebuild { IfOk result (IsRebuildOf (plan_asked records.old.contents asked.now) asked.now.request.now asked.now.at) }
+    ensures looked { IfOk result (λ a. AreRebuildLooks records.old.contents asked.now.request.now.what a records.new.looks) }
     ensures refused { IfErr result (λ r. r ≡ Refusal.Memory) }
 {
     whole_plans_look_few();
-    shown.uncounted().are_sound();
-    let copy = shown.copied(alloc)?;
+    records.uncounted().are_sound();
+    let copy = records.copied(alloc)?;
     let new = changed(alloc, copy, &asked.request.what)?;
-    Ok(rebuild_of(alloc, &shown.uncounted(), derived, asked, new.into_shown()))
+    Ok(rebuild_of(
+        alloc,
+        &records.uncounted(),
+        derived,
+        asked,
+        new.into_counted(),
+    ))
 }

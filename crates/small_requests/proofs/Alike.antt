@@ -1,4 +1,4 @@
--- Where a step touches some operations, what is shown of the plan is the same at all other places.
+-- Where a step touches some operations, the sources of the plan before and after are the same at all other places.
 use Rattle.std.proofs.Common.{◌≡◌, inl, inr, refl, sym, ap, subst, ◌∙◌, arith, ℕ, ℤ, zero, suc, Bool, Decides, List, [], ◌∷◌, length, Contains, Option, Some, None, slice_get}
 use Rattle.std.proofs.lemmas.Option.{slice_get_cases, slice_get_past}
 use Rattle.std.specs.Cmp.{both_ways}
@@ -19,7 +19,7 @@ use Rattle.plan_checks.specs.plan_laws.proofs.Waiting.{one_count}
 use Rattle.plan_model.specs.Moves.{IsRemarkedAt}
 use Rattle.plan_records.specs.Rows.{IsCount}
 use Rattle.plan_checks.specs.start_choice.specs.Choices.{AreLatestStarts}
-use Rattle.plan_rows.specs.Shown.{IsShown, known_of}
+use Rattle.plan_rows.specs.Sources.{IsSource, known_of}
 use Rattle.plan_rows.specs.declared.row_sources.RowSource.{RowSource}
 use Rattle.plan_checks.specs.plan_status.proofs.Alike.{count_alike}
 use Rattle.plan_checks.specs.plan_status.proofs.LoadedRows.{row_found, row_of}
@@ -151,9 +151,9 @@ module _ (P Q : Contents) (valid : IsValid P) (valid_after : IsValid Q) (touched
           tally.started;
     }
 
--- ---- what is shown
+-- ---- sources
 
-module _ (s t : RowSource) (shown : IsShown s) (shown_after : IsShown t) (touched : List ℕ) (at_touched : IsTouchedAt s.contents.now t.contents.now touched)
+module _ (s t : RowSource) (source : IsSource s) (source_after : IsSource t) (touched : List ℕ) (at_touched : IsTouchedAt s.contents.now t.contents.now touched)
     (start_alike : (i : ℕ) → ¬ Contains touched i → slice_get t.latest.now.starts i ≡ slice_get s.latest.now.starts i) where
   abbrev P : Contents
   P = s.contents.now
@@ -166,13 +166,13 @@ module _ (s t : RowSource) (shown : IsShown s) (shown_after : IsShown t) (touche
 
   -- of an operation that isn't touched the standing stays
   standing_alike : (i : ℕ) → ¬ Contains touched i → slice_get t.standings.now i ≡ slice_get s.standings.now i
-  standing_alike i not = alike_at (entries P.operations) (entries Q.operations) (IsStanding P) (IsStanding Q) s.standings.now t.standings.now moves.size shown.standings shown_after.standings i
+  standing_alike i not = alike_at (entries P.operations) (entries Q.operations) (IsStanding P) (IsStanding Q) s.standings.now t.standings.now moves.size source.standings source_after.standings i
       (λ o op at. let row = moves.rows i o op at in (row.before, row.was, λ x y was is. one_standing Q o x y ((at_touched.same i not o row.before row.was).0 x was) is))
 
   -- so does its status
   status_alike : (i : ℕ) → ¬ Contains touched i → slice_get t.statuses.now i ≡ slice_get s.statuses.now i
-  status_alike i not = alike_at (entries P.operations) (entries Q.operations) (HasStatus P) (HasStatus Q) s.statuses.now t.statuses.now moves.size shown.statuses shown_after.statuses i
-      (λ o op at. let row = moves.rows i o op at in (row.before, row.was, λ x y was is. one_status Q shown_after.sound.valid.acyclic o x y ((at_touched.same i not o row.before row.was).1 x was) is))
+  status_alike i not = alike_at (entries P.operations) (entries Q.operations) (HasStatus P) (HasStatus Q) s.statuses.now t.statuses.now moves.size source.statuses source_after.statuses i
+      (λ o op at. let row = moves.rows i o op at in (row.before, row.was, λ x y was is. one_status Q source_after.sound.valid.acyclic o x y ((at_touched.same i not o row.before row.was).1 x was) is))
 
   -- so that all that is known of it stays
   known_alike : (i : ℕ) → ¬ Contains touched i → slice_get (known_of t) i ≡ slice_get (known_of s) i
@@ -184,14 +184,14 @@ module _ (s t : RowSource) (shown : IsShown s) (shown_after : IsShown t) (touche
   tallies_alike : (i : ℕ) → ¬ HasOneOf P touched i → slice_get t.tallies.now i ≡ slice_get s.tallies.now i
   tallies_alike i none =
       let same : entries Q.occurrences ≡ entries P.occurrences = ap entries moves.occurrences in
-      alike_at (entries P.occurrences) (entries Q.occurrences) (IsTally P) (IsTally Q) s.tallies.now t.tallies.now (ap length same) shown.tallies shown_after.tallies i
+      alike_at (entries P.occurrences) (entries Q.occurrences) (IsTally P) (IsTally Q) s.tallies.now t.tallies.now (ap length same) source.tallies source_after.tallies i
       (λ c terms at.
       let was : slice_get (entries P.occurrences) i ≡ Some (c, terms) = subst (λ rows. slice_get rows i ≡ Some (c, terms)) same at in
-      (terms, was, λ x y old new. one_tally Q c x y (tally_after P Q shown.sound.valid shown_after.sound.valid touched at_touched i c terms was none x old) new))
+      (terms, was, λ x y old new. one_tally Q c x y (tally_after P Q source.sound.valid source_after.sound.valid touched at_touched i c terms was none x old) new))
 
   -- nothing else differs
-  pub shown_alike : AreTouched (Some s) (Some t) touched
-  shown_alike = record {
+  pub sources_alike : AreTouched (Some s) (Some t) touched
+  sources_alike = record {
     moved = at_touched.moved;
     ascend = at_touched.ascend;
     within = at_touched.within;
@@ -199,18 +199,18 @@ module _ (s t : RowSource) (shown : IsShown s) (shown_after : IsShown t) (touche
     tallies = tallies_alike;
   }
 
--- where latest starts stay, each is shown alike
-starts_shown : (s t : RowSource) → IsShown s → IsShown t → ((starts : List ℤ) → AreLatestStarts s.contents.now starts → AreLatestStarts t.contents.now starts) → (i : ℕ) → slice_get t.latest.now.starts i ≡ slice_get s.latest.now.starts i
-starts_shown s t shown shown_after latest i =
+-- where latest starts stay, sources have each alike
+starts_alike : (s t : RowSource) → IsSource s → IsSource t → ((starts : List ℤ) → AreLatestStarts s.contents.now starts → AreLatestStarts t.contents.now starts) → (i : ℕ) → slice_get t.latest.now.starts i ≡ slice_get s.latest.now.starts i
+starts_alike s t source source_after latest i =
     let Q = t.contents.now in
-    alike_at (entries Q.operations) (entries Q.operations) (IsLatestStart Q) (IsLatestStart Q) s.latest.now.starts t.latest.now.starts refl (latest s.latest.now.starts shown.latest) shown_after.latest i
+    alike_at (entries Q.operations) (entries Q.operations) (IsLatestStart Q) (IsLatestStart Q) s.latest.now.starts t.latest.now.starts refl (latest s.latest.now.starts source.latest) source_after.latest i
     (λ o op at. (op, at, one_latest_start Q o))
 
--- where a step touches these places, what is shown after it differs at these alone
-pub touched_shown : (P Q : Contents) (touched : List ℕ) → IsTouchedAt P Q touched → ((starts : List ℤ) → AreLatestStarts P starts → AreLatestStarts Q starts)
-    → (s t : RowSource) → s.contents.now ≡ P → t.contents.now ≡ Q → IsShown s → IsShown t → AreTouched (Some s) (Some t) touched
-touched_shown P Q touched at_touched latest s t before after shown shown_after =
+-- where a step touches these places, a source after it differs at these alone
+pub touched_sources : (P Q : Contents) (touched : List ℕ) → IsTouchedAt P Q touched → ((starts : List ℤ) → AreLatestStarts P starts → AreLatestStarts Q starts)
+    → (s t : RowSource) → s.contents.now ≡ P → t.contents.now ≡ Q → IsSource s → IsSource t → AreTouched (Some s) (Some t) touched
+touched_sources P Q touched at_touched latest s t before after source source_after =
     let there : IsTouchedAt s.contents.now t.contents.now touched = subst (λ R. IsTouchedAt R t.contents.now touched) (sym before) (subst (λ R. IsTouchedAt P R touched) (sym after) at_touched) in
     let stay : (starts : List ℤ) → AreLatestStarts s.contents.now starts → AreLatestStarts t.contents.now starts =
     λ starts are. subst (λ R. AreLatestStarts R starts) (sym after) (latest starts (subst (λ R. AreLatestStarts R starts) before are)) in
-    shown_alike s t shown shown_after touched there (λ i out. starts_shown s t shown shown_after stay i)
+    sources_alike s t source source_after touched there (λ i out. starts_alike s t source source_after stay i)

@@ -15,7 +15,7 @@ use Rattle.plan_rows.specs.Touched.{IsFacilityChange}
 use Rattle.plan_rows.specs.declared.notes.FacilityChange.{FacilityChange}
 use Rattle.plan_rows.specs.declared.notes.FacilityChange.TheVariants as kind
 use Rattle.plan_rows.specs.declared.notes.Notes.{Notes}
-use Rattle.small_requests.proofs.Alike.{touched_shown}
+use Rattle.small_requests.proofs.Alike.{touched_sources}
 use Rattle.small_requests.proofs.KnownAlike.{row_stays}
 use Rattle.small_requests.proofs.NamedFigures.{naming_alike, naming_moved}
 use Rattle.small_requests.specs.Edits.{ArePlacesWith}
@@ -81,13 +81,13 @@ module _ (P Q : Contents) (m : ℕ) (os : List OpKey) (chosen : IsChosen Q m os)
 -- what is noted of the plan after notes the step, where its latest starts stay
 pub step_notes : (P Q : Contents) (os : List OpKey) (b : FacilityChange) → IsFacilityChange b P Q → ((starts : List ℤ) → AreLatestStarts P starts → AreLatestStarts (named os Q) starts) → (touched : List ℕ) → IsTouchedAt P (named os Q) touched
     → (notes : Notes) → AreNotesOf (named os Q) b touched notes → AreStepNotes P (named os Q) notes
-step_notes P Q os b stays latest touched at_touched notes noted before shown holds = record {
-  after = noted.shown;
-  shown = noted.is_shown;
+step_notes P Q os b stays latest touched at_touched notes noted before source holds = record {
+  after = noted.source;
+  source = noted.is_source;
   holds = noted.holds;
   facilities = b;
   touched = touched;
-  stays = subst (λ (S : Contents). IsFacilityChange b S noted.shown.contents.now) (sym holds) (subst (IsFacilityChange b P) (sym noted.holds) (stays_named b P Q os stays));
-  among = touched_shown P (named os Q) touched at_touched latest before noted.shown holds noted.holds shown noted.is_shown;
+  stays = subst (λ (S : Contents). IsFacilityChange b S noted.source.contents.now) (sym holds) (subst (IsFacilityChange b P) (sym noted.holds) (stays_named b P Q os stays));
+  among = touched_sources P (named os Q) touched at_touched latest before noted.source holds noted.holds source noted.is_source;
   noted = noted.noted;
 }

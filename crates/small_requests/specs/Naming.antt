@@ -9,7 +9,7 @@ use Rattle.small_requests.specs.StepLooks.{AreBoth}
 use Rattle.plan_checks.specs.derived_figures.specs.UnknownPlaces.{unknown_places}
 use Rattle.plan_checks.specs.derived_figures.specs.Entries.{AreEntriesAt}
 use Rattle.plan_rows.specs.Notes.{AreNotes, IsNotedStep, operations_noted}
-use Rattle.plan_rows.specs.Shown.{IsShown}
+use Rattle.plan_rows.specs.Sources.{IsSource}
 use Rattle.plan_rows.specs.declared.notes.FacilityChange.{FacilityChange}
 use Rattle.plan_rows.specs.declared.notes.Notes.{Notes}
 use Rattle.plan_rows.specs.declared.row_sources.RowSource.{RowSource}
@@ -28,16 +28,16 @@ pub record IsNaming (P : Contents) (m : ℕ) (n : Naming) : Type 0 where
   pub places : ArePlacesOf P n.named.items n.places.items
   pub allocations : AreAllocationsOf (named n.named.items P) n.allocations
 
--- they note what is shown of a plan that holds R
+-- they note a source that holds R
 pub record AreNotesOf (R : Contents) (b : FacilityChange) (touched : List ℕ) (notes : Notes) : Type 0 where
-  pub shown : RowSource
-  pub is_shown : IsShown shown
-  pub holds : shown.contents.now ≡ R
-  pub noted : AreNotes shown b touched notes
+  pub source : RowSource
+  pub is_source : IsSource source
+  pub holds : source.contents.now ≡ R
+  pub noted : AreNotes source b touched notes
 
--- they note a step from a plan that holds P to one that holds R, whatever is shown of the first
+-- they note a step from a plan that holds P to one that holds R, whatever is the source of the first
 abbrev pub AreStepNotes : Contents → Contents → Notes → Type 0
-AreStepNotes P R notes = (before : RowSource) → IsShown before → before.contents.now ≡ P → IsNotedStep (Some before) R notes
+AreStepNotes P R notes = (before : RowSource) → IsSource before → before.contents.now ≡ P → IsNotedStep (Some before) R notes
 
 -- the rows and the columns of the plan that holds R are noted at these places
 pub record IsNotedOf (R : Contents) (b : FacilityChange) (touched : List ℕ) (n : StepNotes) : Type 0 where

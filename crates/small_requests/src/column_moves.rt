@@ -15,23 +15,23 @@ use ready_list::{ReadyEntry, ReadyList};
 /// Moves columns and the ready list on to those of the plan after an edit of which this was worked out, by a look at each operation
 /// that it touches, of which the entry is noted. What stood in the columns leads back. It takes no memory.
 pub fn move_columns(
-    shown: &mut CountedRecords,
+    records: &mut CountedRecords,
     latest: &Latest,
     columns: &mut FigureColumns,
     ready: &mut ReadyList,
     groundwork: &Groundwork,
     noted: &mut Vec<ReadyEntry>,
 )
-    requires groundwork { (P : Contents) × (edits : List ℕ) × HasGroundwork P shown.old.contents edits latest.now.starts columns.old ready.old groundwork.now }
+    requires groundwork { (P : Contents) × (edits : List ℕ) × HasGroundwork P records.old.contents edits latest.now.starts columns.old ready.old groundwork.now }
     requires none_noted { noted.old.items ≡ [] }
     requires space { length groundwork.now.touched.items ≤ vec_capacity noted.old }
-    ensures columns { AreColumnsOf shown.old.contents columns.new }
-    ensures ready { IsReadyListOf shown.old.contents ready.new }
+    ensures columns { AreColumnsOf records.old.contents columns.new }
+    ensures ready { IsReadyListOf records.old.contents ready.new }
     ensures back { MakesOf groundwork.now.old columns.new columns.old }
-    ensures noted { AreEntriesAt shown.old.contents groundwork.now.touched.items noted.new.items }
-    ensures contents { shown.new.contents ≡ shown.old.contents }
-    ensures fewest { shown.old.looks ≤ shown.new.looks }
-    ensures most { shown.new.looks ≤ shown.old.looks + length groundwork.now.touched.items }
+    ensures noted { AreEntriesAt records.old.contents groundwork.now.touched.items noted.new.items }
+    ensures contents { records.new.contents ≡ records.old.contents }
+    ensures fewest { records.old.looks ≤ records.new.looks }
+    ensures most { records.new.looks ≤ records.old.looks + length groundwork.now.touched.items }
 {
     put_at(&mut columns.wait_states, &groundwork.wait_states);
     update_standings(
@@ -45,7 +45,7 @@ pub fn move_columns(
         places: &groundwork.touched,
     };
     update_statuses(
-        shown,
+        records,
         by,
         &mut columns.statuses,
         &mut columns.tallies,

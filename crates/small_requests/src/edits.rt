@@ -1,11 +1,9 @@
 // What a small request edits.
-ghost use Rattle.std.specs.Prelude.{◌≡◌, ◌<◌, ◌≤◌, ◌+◌, ℕ, true, false, All, Contains, Decides, IfErr, IfOk, Some, length, slice_get};
-ghost use Rattle.std.specs.FinMap.{entries, keys as keys_in};
+ghost use Rattle.std.specs.Prelude.{◌≡◌, ◌≤◌, ◌+◌, ℕ, true, false, Contains, Decides, IfErr, IfOk, length};
 ghost use Rattle.plan_basics.specs.Minutes.{IsMoment};
 ghost use Rattle.plan_basics.specs.Refusals.{NoneRefuses};
 ghost use Rattle.plan_basics.specs.declared.Refusal.{Refusal};
 ghost use Rattle.small_requests.specs.RequestEdits.{IsRerun, IsSmall};
-ghost use Rattle.plan_drafts.specs.PlanGraphs.{StandAt};
 ghost use Rattle.plan_checks.specs.derived_figures.specs.DerivedRefs.{AreDerivedOf};
 ghost use Rattle.small_requests.specs.StepLooks.{AreWorkedAt, one_at_least};
 ghost use Rattle.plan_model.specs.declared.moves.Marking.{Marking as MarkingValue};
@@ -18,11 +16,11 @@ use super::edited_places::edited_places;
 use super::request_revisions::revision_of;
 use super::revisions::Revision;
 use plan_basics::{OpKey, Refusal};
-use plan_checks::{CountedRecords, Outline, UncountedContents};
+use plan_checks::{CountedRecords, Outline, keys_at};
 use plan_model::Marking;
 use plan_records::What;
 use plan_rows::DerivedRefs;
-use std::alloc::{AllocError, Global};
+use std::alloc::Global;
 
 /// What a request edits.
 #[derive(Drop)]
@@ -44,30 +42,6 @@ fn is_rerun(what: &What) -> bool
     ensures { Decides result (IsRerun what.now) }
 {
     matches!(what, What::Rerun(_))
-}
-
-// The key of the operation at an index.
-fn key_at(uncounted: &UncountedContents<'_>, place: usize) -> OpKey
-    requires { place < length (entries uncounted.now.contents.now.operations) }
-    ensures { slice_get (keys_in uncounted.now.contents.now.operations) place ≡ Some result }
-{
-    *uncounted.operation_key(place)
-}
-
-// The keys of the operations at these indices.
-fn keys_at(
-    alloc: Global,
-    uncounted: &UncountedContents<'_>,
-    places: &[usize],
-) -> Result<Vec<OpKey>, AllocError>
-    requires { All (λ place. place < length (entries uncounted.now.contents.now.operations)) places.now }
-    ensures { IfOk result (λ keys. StandAt (keys_in uncounted.now.contents.now.operations) places.now keys.items) }
-{
-    let mut keys = Vec::with_capacity(alloc, places.len())?;
-    for place in places {
-        keys.push(key_at(uncounted, *place))?;
-    }
-    Ok(keys)
 }
 
 // Whether a flag of an operation with this marking stands already as a request would write it.
@@ -112,24 +86,24 @@ fn nothing_edited(alloc: Global) -> Edit
 // What is noted of what a small request edits in whose way nothing stands: a look at each operation.
 fn noted_edit(
     alloc: Global,
-    shown: &mut CountedRecords,
+    records: &mut CountedRecords,
     derived: DerivedRefs<'_>,
     what: &What,
 ) -> Result<Edit, Refusal>
-    requires derived { AreDerivedOf shown.old.contents derived }
+    requires derived { AreDerivedOf records.old.contents derived }
     requires small { IsSmall what.now }
-    requires clear { (at : ℕ) × NoneRefuses (MayBeDone shown.old.contents at what.now) }
-    ensures noted { IfOk result (IsNotedEdit shown.old.contents what.now) }
+    requires clear { (at : ℕ) × NoneRefuses (MayBeDone records.old.contents at what.now) }
+    ensures noted { IfOk result (IsNotedEdit records.old.contents what.now) }
     ensures refused { IfErr result (λ r. r ≡ Refusal.Memory) }
-    ensures contents { shown.new.contents ≡ shown.old.contents }
-    ensures fewest { shown.old.looks ≤ shown.new.looks }
-    ensures most { IfOk result (λ edit. shown.new.looks ≤ shown.old.looks + length edit.places.items) }
+    ensures contents { records.new.contents ≡ records.old.contents }
+    ensures fewest { records.old.looks ≤ records.new.looks }
+    ensures most { IfOk result (λ edit. records.new.looks ≤ records.old.looks + length edit.places.items) }
 {
-    let outline = Outline::of(shown.uncounted(), derived);
+    let outline = Outline::of(records.uncounted(), derived);
     let places = edited_places(alloc, &outline, what)?;
     let revision = revision_of(alloc, &outline.uncounted(), what)?;
     let keys = keys_at(alloc, &outline.uncounted(), &places)?;
-    let marks = shown.markings_of(alloc, &keys)?;
+    let marks = records.markings_of(alloc, &keys)?;
     Ok(Edit {
         places,
         keys,
@@ -143,25 +117,25 @@ fn noted_edit(
 /// takes a look at each operation that it edits, and one where it edits nothing. The error is always `Memory`.
 pub fn edit_of(
     alloc: Global,
-    shown: &mut CountedRecords,
+    records: &mut CountedRecords,
     derived: DerivedRefs<'_>,
     what: &What,
 ) -> Result<Edit, Refusal>
-    requires derived { AreDerivedOf shown.old.contents derived }
+    requires derived { AreDerivedOf records.old.contents derived }
     requires small { IsSmall what.now }
-    requires clear { (at : ℕ) × IsMoment at × NoneRefuses (MayBeDone shown.old.contents at what.now) }
-    ensures edit { IfOk result (IsEditFor shown.old.contents) }
-    ensures changes { IfOk result (λ edit. Changes shown.old.contents what.now (edited edit shown.old.contents)) }
+    requires clear { (at : ℕ) × IsMoment at × NoneRefuses (MayBeDone records.old.contents at what.now) }
+    ensures edit { IfOk result (IsEditFor records.old.contents) }
+    ensures changes { IfOk result (λ edit. Changes records.old.contents what.now (edited edit records.old.contents)) }
     ensures legal { IfOk result (λ edit. IsRequest what.now) }
-    ensures worked { IfOk result (λ edit. AreWorkedAt shown.old.contents (edited edit shown.old.contents) what.now edit.places.items) }
+    ensures worked { IfOk result (λ edit. AreWorkedAt records.old.contents (edited edit records.old.contents) what.now edit.places.items) }
     ensures rerun { IfOk result (λ edit. edit.is_rerun ≡ true → IsRerun what.now) }
     ensures refused { IfErr result (λ r. r ≡ Refusal.Memory) }
-    ensures contents { shown.new.contents ≡ shown.old.contents }
-    ensures fewest { shown.old.looks ≤ shown.new.looks }
-    ensures most { IfOk result (λ edit. shown.new.looks ≤ shown.old.looks + one_at_least (length edit.places.items)) }
+    ensures contents { records.new.contents ≡ records.old.contents }
+    ensures fewest { records.old.looks ≤ records.new.looks }
+    ensures most { IfOk result (λ edit. records.new.looks ≤ records.old.looks + one_at_least (length edit.places.items)) }
 {
-    shown.uncounted().are_sound();
-    let edit = noted_edit(alloc, shown, derived, what)?;
+    records.uncounted().are_sound();
+    let edit = noted_edit(alloc, records, derived, what)?;
     if is_idle_at_one(what, &edit.marks) {
         Ok(nothing_edited(alloc))
     } else {

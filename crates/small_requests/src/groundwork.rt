@@ -42,35 +42,35 @@ pub struct Groundwork {
 pub fn groundwork_of(
     alloc: Global,
     graph: &Graph,
-    shown: &mut CountedRecords,
+    records: &mut CountedRecords,
     edit: &Edit,
     columns: &mut FigureColumns,
     allocations: &mut Allocations,
 ) -> Result<(Groundwork, Vec<ReadyEntry>), Refusal>
-    requires { (P : Contents) × (starts : List ℤ) × (ready : ReadyEntries) × WasEdited P shown.old.contents edit.now graph.now starts (figures_of columns.old ready allocations.old) }
+    requires { (P : Contents) × (starts : List ℤ) × (ready : ReadyEntries) × WasEdited P records.old.contents edit.now graph.now starts (figures_of columns.old ready allocations.old) }
     ensures unchanged { AreAlike columns.new columns.old }
-    ensures groundwork { IfOk result (λ g. IsGroundwork shown.old.contents edit.now.places.items columns.new g.0) }
+    ensures groundwork { IfOk result (λ g. IsGroundwork records.old.contents edit.now.places.items columns.new g.0) }
     ensures facilities { IfOk result (λ g. (keys : List OpKeyValue) (P : Contents) → IsFacilityChange g.0.facilities P (written keys edit.now.revision P)) }
     ensures none_noted { IfOk result (λ g. g.1.items ≡ []) }
     ensures space { IfOk result (λ g. length g.0.touched.items ≤ vec_capacity g.1) }
-    ensures allocations { OnOk result (AreAllocationsOf shown.old.contents allocations.new) }
-    ensures contents { shown.new.contents ≡ shown.old.contents }
-    ensures fewest { shown.old.looks ≤ shown.new.looks }
-    ensures counted { IfOk result (λ g. IsCounted shown.old.contents edit.now 2 columns.new.wait_states.items (overwritten g.0.wait_states.items columns.new.wait_states.items) g.0.touched.items shown.old.looks shown.new.looks) }
+    ensures allocations { OnOk result (AreAllocationsOf records.old.contents allocations.new) }
+    ensures contents { records.new.contents ≡ records.old.contents }
+    ensures fewest { records.old.looks ≤ records.new.looks }
+    ensures counted { IfOk result (λ g. IsCounted records.old.contents edit.now 2 columns.new.wait_states.items (overwritten g.0.wait_states.items columns.new.wait_states.items) g.0.touched.items records.old.looks records.new.looks) }
     ensures refused { IfErr result (λ r. r ≡ Refusal.Memory) }
 {
     let WaitChange {
         touched,
         wait_states,
-    } = recount(alloc, graph, shown, edit, &mut columns.wait_states)?;
+    } = recount(alloc, graph, records, edit, &mut columns.wait_states)?;
     retake(
-        shown,
+        records,
         &mut allocations.given,
         &mut allocations.holdings,
         &edit.places,
         &edit.marks,
     )?;
-    let old = snapshot_of(alloc, &shown.uncounted(), columns, &touched)?;
+    let old = snapshot_of(alloc, &records.uncounted(), columns, &touched)?;
     let entries = Vec::with_capacity(alloc, touched.len())?;
     let groundwork = Groundwork {
         touched,

@@ -1,5 +1,5 @@
 //! What a small request leads to: one by which only marks and flags change, which special resources are available, or when
-//! workstations are open. It is written into what is shown of the plan, what follows is worked out and noted there, and then all is
+//! workstations are open. It is written into the records of the plan, what follows is worked out and noted there, and then all is
 //! put back. What is kept of the plan moves with it, from the operations that the request edits and those that are named, and is
 //! put back too. And laws: what stays where no more than that changes, and that what is looked at is within what is allowed.
 #![tactic(auto)]
@@ -40,8 +40,8 @@ pub use laws::{
 pub use named_steps::SmallStep;
 pub use naming_afresh::{NamedAfresh, name_afresh};
 pub use plan_checks::{
-    CountedRecords, Figures, Outline, RecordCopy, UncountedContents, check_load, check_request,
-    check_shown, is_one_of,
+    CountedRecords, Figures, Outline, RecordCopy, UncountedContents, check_load, check_records,
+    check_request, is_one_of,
 };
 pub use plan_rows::{
     DerivedAfresh, DerivedRefs, LoadedPlan, PlanBefore, SourceColumns, TableSource, changed_rows,

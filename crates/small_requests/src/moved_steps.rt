@@ -64,7 +64,7 @@ fn moved_step(
     (same, step)
 }
 
-/// What follows once an edit has made what is shown of a plan, of which these are the columns, which stay. It gives the same back, and
+/// What follows once an edit has made these records of those of a plan, whose columns these are, which stay. It gives the same back, and
 /// the ready list is that of the plan before still. The error is always `Memory`.
 pub fn step_after(
     context: &StepContext<'_>,
@@ -86,17 +86,17 @@ pub fn step_after(
     ensures refused { IfErr result.1 (λ r. r ≡ Refusal.Memory) }
 {
     let mut allocations = allocations;
-    let mut shown = after;
+    let mut records = after;
     let StepContext { alloc, graph, .. } = *context;
-    match groundwork_of(alloc, graph, &mut shown, edit, columns, &mut allocations) {
+    match groundwork_of(alloc, graph, &mut records, edit, columns, &mut allocations) {
         Ok(groundwork_with_room) => moved_step(
             context,
-            shown,
+            records,
             columns,
             ready,
             allocations,
             groundwork_with_room,
         ),
-        Err(refusal) => (shown, Err(refusal)),
+        Err(refusal) => (records, Err(refusal)),
     }
 }

@@ -69,30 +69,30 @@ fn step_of(effects: NamingEffects, noted: StepNotes) -> SmallStep
 // the ready list is that of the plan still. The error is always `Memory`.
 fn note_step(
     context: &StepContext<'_>,
-    shown: CountedRecords,
+    records: CountedRecords,
     columns: &mut FigureColumns,
     ready: &mut ReadyList,
     effects: NamingEffects,
     facilities: FacilityChange,
 ) -> (CountedRecords, Result<SmallStep, Refusal>)
-    requires latest { AreLatestStarts shown.contents context.now.latest.now.starts }
-    requires columns { AreColumnsOf shown.contents columns.old }
-    requires ready { IsReadyListOf shown.contents ready.old }
-    requires effects { (at : ℕ) × (edited : List ℕ) × ArePlacesIn shown.contents edited × AreNamingEffects shown.contents at edited columns.old effects }
-    ensures contents { result.0.contents ≡ shown.contents }
+    requires latest { AreLatestStarts records.contents context.now.latest.now.starts }
+    requires columns { AreColumnsOf records.contents columns.old }
+    requires ready { IsReadyListOf records.contents ready.old }
+    requires effects { (at : ℕ) × (edited : List ℕ) × ArePlacesIn records.contents edited × AreNamingEffects records.contents at edited columns.old effects }
+    ensures contents { result.0.contents ≡ records.contents }
     ensures unchanged { AreAlike columns.new columns.old }
-    ensures ready { IsReadyListOf shown.contents ready.new }
+    ensures ready { IsReadyListOf records.contents ready.new }
     ensures named { IfOk result.1 (λ s. s.named ≡ effects.naming.named) }
     ensures allocations { IfOk result.1 (λ s. s.figure_change.allocations ≡ effects.naming.allocations) }
     ensures entries { IfOk result.1 (λ s. s.figure_change.entries ≡ effects.entries) }
-    ensures columns_then { IfOk result.1 (λ s. HasColumnsAt (named_in effects.naming.named.items shown.contents) effects.touched.items s.figure_change.columns) }
-    ensures notes { IfOk result.1 (λ s. AreNotesOf (named_in effects.naming.named.items shown.contents) facilities effects.touched.items s.notes) }
+    ensures columns_then { IfOk result.1 (λ s. HasColumnsAt (named_in effects.naming.named.items records.contents) effects.touched.items s.figure_change.columns) }
+    ensures notes { IfOk result.1 (λ s. AreNotesOf (named_in effects.naming.named.items records.contents) facilities effects.touched.items s.notes) }
     ensures all_noted { IfOk result.1 (λ s. operations_noted s.notes ≡ length effects.touched.items) }
-    ensures most { result.0.looks ≤ shown.looks + length effects.touched.items }
-    ensures least { IfOk result.1 (λ s. (18446744073709551615 ≤ result.0.looks) ⊎ (shown.looks + length effects.touched.items ≤ result.0.looks)) }
+    ensures most { result.0.looks ≤ records.looks + length effects.touched.items }
+    ensures least { IfOk result.1 (λ s. (18446744073709551615 ≤ result.0.looks) ⊎ (records.looks + length effects.touched.items ≤ result.0.looks)) }
     ensures refused { IfErr result.1 (λ r. r ≡ Refusal.Memory) }
 {
-    let mut after = with_named(shown, &effects.naming.named);
+    let mut after = with_named(records, &effects.naming.named);
     let noted = note(context, &mut after, columns, ready, &effects, facilities);
     let same = without_named(after, &effects.naming.named);
     match noted {
@@ -105,25 +105,25 @@ fn note_step(
 /// of the plan still. The error is always `Memory`.
 pub fn named_step(
     context: &StepContext<'_>,
-    shown: CountedRecords,
+    records: CountedRecords,
     columns: &mut FigureColumns,
     ready: &mut ReadyList,
     allocations: Allocations,
     edited: TouchedByEdit<'_>,
 ) -> (CountedRecords, Result<SmallStep, Refusal>)
-    requires latest { AreLatestStarts shown.contents context.now.latest.now.starts }
-    requires columns { AreColumnsOf shown.contents columns.old }
-    requires ready { IsReadyListOf shown.contents ready.old }
-    requires allocations { AreAllocationsOf shown.contents allocations }
-    requires edited { ArePlacesIn shown.contents edited.places.now }
-    requires known { AreEntriesAt shown.contents edited.places.now edited.entries.now }
-    ensures contents { result.0.contents ≡ shown.contents }
+    requires latest { AreLatestStarts records.contents context.now.latest.now.starts }
+    requires columns { AreColumnsOf records.contents columns.old }
+    requires ready { IsReadyListOf records.contents ready.old }
+    requires allocations { AreAllocationsOf records.contents allocations }
+    requires edited { ArePlacesIn records.contents edited.places.now }
+    requires known { AreEntriesAt records.contents edited.places.now edited.entries.now }
+    ensures contents { result.0.contents ≡ records.contents }
     ensures unchanged { AreAlike columns.new columns.old }
-    ensures ready { IsReadyListOf shown.contents ready.new }
-    ensures step { IfOk result.1 (IsStepOf shown.contents context.now.at edited.entry.places.now edited.entry.facilities shown.looks result.0.looks) }
+    ensures ready { IsReadyListOf records.contents ready.new }
+    ensures step { IfOk result.1 (IsStepOf records.contents context.now.at edited.entry.places.now edited.entry.facilities records.looks result.0.looks) }
     ensures refused { IfErr result.1 (λ r. r ≡ Refusal.Memory) }
 {
-    let (same, effects) = naming_effects(context, shown, columns, ready, allocations, edited);
+    let (same, effects) = naming_effects(context, records, columns, ready, allocations, edited);
     match effects {
         Ok(effects) => note_step(context, same, columns, ready, effects, edited.facilities),
         Err(refusal) => (same, Err(refusal)),

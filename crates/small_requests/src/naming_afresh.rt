@@ -31,85 +31,91 @@ pub struct NamedAfresh {
 // What follows from a naming alone, by the summaries of all operations: nothing is looked at. The error is always `Memory`.
 fn effects_by_summaries(
     context: &StepContext<'_>,
-    shown: &mut CountedRecords,
+    records: &mut CountedRecords,
     columns: &FigureColumns,
     naming: Result<Naming, Refusal>,
     summaries: &[OperationSummary],
 ) -> Result<NamingEffects, Refusal>
-    requires latest { AreLatestStarts shown.old.contents context.now.latest.now.starts }
-    requires columns { AreColumnsOf shown.old.contents columns.now }
-    requires naming { IfOk naming (IsNaming shown.old.contents context.now.at) }
+    requires latest { AreLatestStarts records.old.contents context.now.latest.now.starts }
+    requires columns { AreColumnsOf records.old.contents columns.now }
+    requires naming { IfOk naming (IsNaming records.old.contents context.now.at) }
     requires memory { IfErr naming (λ r. r ≡ Refusal.Memory) }
-    requires summaries { AreSummaries shown.old.contents summaries.now }
-    ensures effects { IfOk result (λ f. AreNamingEffects shown.old.contents context.now.at f.naming.places.items columns.now f) }
-    ensures contents { shown.new.contents ≡ shown.old.contents }
-    ensures most { (n : ℕ) → IfOk naming (λ named. shown.old.looks ≤ n) → IfOk result (λ f. shown.new.looks ≤ n) }
+    requires summaries { AreSummaries records.old.contents summaries.now }
+    ensures effects { IfOk result (λ f. AreNamingEffects records.old.contents context.now.at f.naming.places.items columns.now f) }
+    ensures contents { records.new.contents ≡ records.old.contents }
+    ensures most { (n : ℕ) → IfOk naming (λ named. records.old.looks ≤ n) → IfOk result (λ f. records.new.looks ≤ n) }
     ensures refused { IfErr result (λ r. r ≡ Refusal.Memory) }
 {
     let StepContext { alloc, latest, .. } = *context;
     let naming = naming?;
     let places = Vec::from_slice(alloc, &naming.places)?;
-    let entries = entries_by_summaries(alloc, &shown.uncounted(), summaries, latest, &places)?;
+    let entries = entries_by_summaries(alloc, &records.uncounted(), summaries, latest, &places)?;
     let edited = TouchedByEdit {
         places: &places,
         entries: &entries,
         facilities: FacilityChange::Nothing,
     };
-    effects_of(alloc, shown, latest, columns, naming, edited)
+    effects_of(alloc, records, latest, columns, naming, edited)
 }
 
-// What is shown once what follows is marked named, and the figures then: nothing is looked at.
+// The records once what follows is marked named, and the figures then: nothing is looked at.
 fn marked_named(
-    shown: CountedRecords,
+    records: CountedRecords,
     columns: FigureColumns,
     ready: ReadyList,
     effects: NamingEffects,
 ) -> (CountedRecords, NamedAfresh)
-    requires { (at : ℕ) × (edited : List ℕ) × (starts : List ℤ) × WereEffectsNamed shown.contents (named_in effects.naming.named.items shown.contents) at edited starts columns ready effects }
+    requires { (at : ℕ) × (edited : List ℕ) × (starts : List ℤ) × WereEffectsNamed records.contents (named_in effects.naming.named.items records.contents) at edited starts columns ready effects }
     ensures named { result.1.named ≡ effects.naming.named }
-    ensures contents { result.0.contents ≡ named_in effects.naming.named.items shown.contents }
+    ensures contents { result.0.contents ≡ named_in effects.naming.named.items records.contents }
     ensures figures { AreFigures result.0.contents result.1.figures }
-    ensures looks { result.0.looks ≡ shown.looks }
+    ensures looks { result.0.looks ≡ records.looks }
 {
     let mut columns = columns;
     let mut ready = ready;
-    let shown = with_named(shown, &effects.naming.named);
-    move_on(&shown.uncounted(), &mut columns, &mut ready, &effects);
+    let records = with_named(records, &effects.naming.named);
+    move_on(&records.uncounted(), &mut columns, &mut ready, &effects);
     let Naming {
         named,
         allocations,
         ..
     } = effects.naming;
     let figures = figures_with(columns, ready, allocations);
-    (shown, NamedAfresh { named, figures })
+    (records, NamedAfresh { named, figures })
 }
 
-/// What is named at the moment in what is shown, of whose operations these are the summaries, and its figures once that is marked so: by a
-/// look at each entry of the ready list at most. All that is kept is worked out once: of what is named its status is known then. The
-/// error is always `Memory`.
+/// What is named at the moment in the plan of these records, of whose operations these are the summaries, and its figures once that is
+/// marked so: by a look at each entry of the ready list at most. All that is kept is worked out once: of what is named its status is known
+/// then. The error is always `Memory`.
 pub fn name_afresh(
     context: &StepContext<'_>,
-    shown: CountedRecords,
+    records: CountedRecords,
     figures: Figures,
     summaries: &[OperationSummary],
 ) -> (CountedRecords, Result<NamedAfresh, Refusal>)
-    requires latest { AreLatestStarts shown.contents context.now.latest.now.starts }
-    requires figures { AreFigures shown.contents figures }
-    requires summaries { AreSummaries shown.contents summaries.now }
-    ensures chosen { IfOk result.1 (λ s. IsChosen shown.contents context.now.at s.named.items) }
-    ensures contents { IfOk result.1 (λ s. result.0.contents ≡ named_in s.named.items shown.contents) }
-    ensures frame { IfOk result.1 (λ s. KeepsFrame shown.contents result.0.contents) }
+    requires latest { AreLatestStarts records.contents context.now.latest.now.starts }
+    requires figures { AreFigures records.contents figures }
+    requires summaries { AreSummaries records.contents summaries.now }
+    ensures chosen { IfOk result.1 (λ s. IsChosen records.contents context.now.at s.named.items) }
+    ensures contents { IfOk result.1 (λ s. result.0.contents ≡ named_in s.named.items records.contents) }
+    ensures frame { IfOk result.1 (λ s. KeepsFrame records.contents result.0.contents) }
     ensures figures { IfOk result.1 (λ s. AreFigures result.0.contents s.figures) }
-    ensures most { IfOk result.1 (λ s. result.0.looks ≤ shown.looks + length figures.ready.entries) }
+    ensures most { IfOk result.1 (λ s. result.0.looks ≤ records.looks + length figures.ready.entries) }
     ensures refused { IfErr result.1 (λ r. r ≡ Refusal.Memory) }
 {
     let (columns, ready, allocations) = parts_of(figures);
-    let (mut shown, naming) = choose_named(context.alloc, shown, &ready, allocations, context.at);
-    match effects_by_summaries(context, &mut shown, &columns, naming, summaries) {
+    let (mut records, naming) = choose_named(
+        context.alloc,
+        records,
+        &ready,
+        allocations,
+        context.at,
+    );
+    match effects_by_summaries(context, &mut records, &columns, naming, summaries) {
         Ok(effects) => {
-            let (shown, settled) = marked_named(shown, columns, ready, effects);
-            (shown, Ok(settled))
+            let (records, settled) = marked_named(records, columns, ready, effects);
+            (records, Ok(settled))
         }
-        Err(refusal) => (shown, Err(refusal)),
+        Err(refusal) => (records, Err(refusal)),
     }
 }

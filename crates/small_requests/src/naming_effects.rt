@@ -39,22 +39,22 @@ pub struct NamingEffects {
 /// What follows from a naming, and from an edit. It takes a look at each place that the edit didn't touch. The error is always `Memory`.
 pub fn effects_of(
     alloc: Global,
-    shown: &mut CountedRecords,
+    records: &mut CountedRecords,
     latest: &Latest,
     columns: &FigureColumns,
     naming: Naming,
     edited: TouchedByEdit<'_>,
 ) -> Result<NamingEffects, Refusal>
-    requires latest { AreLatestStarts shown.old.contents latest.now.starts }
-    requires columns { AreColumnsOf shown.old.contents columns.now }
-    requires naming { (at : ℕ) × IsNaming shown.old.contents at naming }
-    requires edited { ArePlacesIn shown.old.contents edited.places.now }
-    requires known { AreEntriesAt shown.old.contents edited.places.now edited.entries.now }
+    requires latest { AreLatestStarts records.old.contents latest.now.starts }
+    requires columns { AreColumnsOf records.old.contents columns.now }
+    requires naming { (at : ℕ) × IsNaming records.old.contents at naming }
+    requires edited { ArePlacesIn records.old.contents edited.places.now }
+    requires known { AreEntriesAt records.old.contents edited.places.now edited.entries.now }
     ensures naming { IfOk result (λ f. f.naming ≡ naming) }
-    ensures effects { IfOk result (λ f. (at : ℕ) → IsNaming shown.old.contents at naming → AreNamingEffects shown.old.contents at edited.entry.places.now columns.now f) }
-    ensures contents { shown.new.contents ≡ shown.old.contents }
-    ensures fewest { shown.old.looks ≤ shown.new.looks }
-    ensures most { IfOk result (λ f. shown.new.looks ≤ shown.old.looks + length (unknown_places edited.entry.places.now f.touched.items)) }
+    ensures effects { IfOk result (λ f. (at : ℕ) → IsNaming records.old.contents at naming → AreNamingEffects records.old.contents at edited.entry.places.now columns.now f) }
+    ensures contents { records.new.contents ≡ records.old.contents }
+    ensures fewest { records.old.looks ≤ records.new.looks }
+    ensures most { IfOk result (λ f. records.new.looks ≤ records.old.looks + length (unknown_places edited.entry.places.now f.touched.items)) }
     ensures refused { IfErr result (λ r. r ≡ Refusal.Memory) }
 {
     let TouchedByEdit {
@@ -63,10 +63,10 @@ pub fn effects_of(
         ..
     } = edited;
     let touched = joined(alloc, places, &naming.places)?;
-    let old = snapshot_of(alloc, &shown.uncounted(), columns, &touched)?;
+    let old = snapshot_of(alloc, &records.uncounted(), columns, &touched)?;
     let statuses = statuses_once_named(alloc, &columns.statuses, &touched, &naming.places)?;
     let mut entries = Vec::with_capacity(alloc, touched.len())?;
-    entries_at(shown, latest, &touched, places, known, &mut entries);
+    entries_at(records, latest, &touched, places, known, &mut entries);
     Ok(NamingEffects {
         naming,
         touched,
@@ -77,25 +77,25 @@ pub fn effects_of(
 }
 
 /// What is named at the moment, and what is touched by that and by an edit. It takes a look at each entry of the ready list, and at each
-/// place that is named and wasn't touched by the edit. It gives back what is shown. The error is always `Memory`.
+/// place that is named and wasn't touched by the edit. It gives back the records. The error is always `Memory`.
 pub fn naming_effects(
     context: &StepContext<'_>,
-    shown: CountedRecords,
+    records: CountedRecords,
     columns: &FigureColumns,
     ready: &ReadyList,
     allocations: Allocations,
     edited: TouchedByEdit<'_>,
 ) -> (CountedRecords, Result<NamingEffects, Refusal>)
-    requires latest { AreLatestStarts shown.contents context.now.latest.now.starts }
-    requires columns { AreColumnsOf shown.contents columns.now }
-    requires ready { IsReadyListOf shown.contents ready.now }
-    requires allocations { AreAllocationsOf shown.contents allocations }
-    requires edited { ArePlacesIn shown.contents edited.places.now }
-    requires known { AreEntriesAt shown.contents edited.places.now edited.entries.now }
-    ensures contents { result.0.contents ≡ shown.contents }
-    ensures effects { IfOk result.1 (AreNamingEffects shown.contents context.now.at edited.entry.places.now columns.now) }
-    ensures fewest { IfOk result.1 (λ f. shown.looks ≤ result.0.looks) }
-    ensures most { IfOk result.1 (λ f. result.0.looks ≤ shown.looks + length ready.now.entries + length (unknown_places edited.entry.places.now f.touched.items)) }
+    requires latest { AreLatestStarts records.contents context.now.latest.now.starts }
+    requires columns { AreColumnsOf records.contents columns.now }
+    requires ready { IsReadyListOf records.contents ready.now }
+    requires allocations { AreAllocationsOf records.contents allocations }
+    requires edited { ArePlacesIn records.contents edited.places.now }
+    requires known { AreEntriesAt records.contents edited.places.now edited.entries.now }
+    ensures contents { result.0.contents ≡ records.contents }
+    ensures effects { IfOk result.1 (AreNamingEffects records.contents context.now.at edited.entry.places.now columns.now) }
+    ensures fewest { IfOk result.1 (λ f. records.looks ≤ result.0.looks) }
+    ensures most { IfOk result.1 (λ f. result.0.looks ≤ records.looks + length ready.now.entries + length (unknown_places edited.entry.places.now f.touched.items)) }
     ensures refused { IfErr result.1 (λ r. r ≡ Refusal.Memory) }
 {
     let StepContext {
@@ -104,7 +104,7 @@ pub fn naming_effects(
         at,
         ..
     } = *context;
-    let (same, naming) = choose_named(alloc, shown, ready, allocations, at);
+    let (same, naming) = choose_named(alloc, records, ready, allocations, at);
     match naming {
         Ok(naming) => {
             let mut same = same;

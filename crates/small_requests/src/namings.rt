@@ -48,30 +48,30 @@ fn naming_of(
     })
 }
 
-/// What is named at a moment, by a look at each entry of the ready list at most. It gives back what is shown. The error is always
+/// What is named at a moment, by a look at each entry of the ready list at most. It gives back the records. The error is always
 /// `Memory`.
 pub fn choose_named(
     alloc: Global,
-    shown: CountedRecords,
+    records: CountedRecords,
     ready: &ReadyList,
     allocations: Allocations,
     at: Moment,
 ) -> (CountedRecords, Result<Naming, Refusal>)
-    requires ready { IsReadyListOf shown.contents ready.now }
-    requires allocations { AreAllocationsOf shown.contents allocations }
-    ensures contents { result.0.contents ≡ shown.contents }
-    ensures naming { IfOk result.1 (IsNaming shown.contents at) }
-    ensures fewest { IfOk result.1 (λ n. shown.looks ≤ result.0.looks) }
-    ensures most { IfOk result.1 (λ n. result.0.looks ≤ shown.looks + length ready.now.entries) }
+    requires ready { IsReadyListOf records.contents ready.now }
+    requires allocations { AreAllocationsOf records.contents allocations }
+    ensures contents { result.0.contents ≡ records.contents }
+    ensures naming { IfOk result.1 (IsNaming records.contents at) }
+    ensures fewest { IfOk result.1 (λ n. records.looks ≤ result.0.looks) }
+    ensures most { IfOk result.1 (λ n. result.0.looks ≤ records.looks + length ready.now.entries) }
     ensures refused { IfErr result.1 (λ r. r ≡ Refusal.Memory) }
 {
     let Allocations { given, holdings } = allocations;
-    let (shown, choice) = chosen_with(alloc, shown, ready, at, given, holdings);
+    let (records, choice) = chosen_with(alloc, records, ready, at, given, holdings);
     match choice {
         Ok(choice) => {
-            let naming = naming_of(alloc, &shown.uncounted(), choice);
-            (shown, naming)
+            let naming = naming_of(alloc, &records.uncounted(), choice);
+            (records, naming)
         }
-        Err(refusal) => (shown, Err(refusal)),
+        Err(refusal) => (records, Err(refusal)),
     }
 }

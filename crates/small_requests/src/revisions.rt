@@ -58,25 +58,25 @@ impl Revision {
 }
 
 // A copy of the workstation of this name, which is there.
-fn standing_workstation(shown: &CountedRecords, name: &WsName) -> Result<Workstation, AllocError>
-    requires { contains_key shown.now.contents.workstations name.now ≡ true }
-    ensures { IfOk result (λ w. (w.0 ≡ name.now) × (get shown.now.contents.workstations name.now ≡ Some w.1)) }
+fn standing_workstation(records: &CountedRecords, name: &WsName) -> Result<Workstation, AllocError>
+    requires { contains_key records.now.contents.workstations name.now ≡ true }
+    ensures { IfOk result (λ w. (w.0 ≡ name.now) × (get records.now.contents.workstations name.now ≡ Some w.1)) }
 {
-    shown.uncounted().workstation(name).unwrap().try_clone()
+    records.uncounted().workstation(name).unwrap().try_clone()
 }
 
 /// What stands beside operations where it is going to be written: that, written after it, puts back what stood there.
-pub fn standing(shown: &CountedRecords, revision: &Revision) -> Result<Revision, AllocError>
-    requires { HasPlaceFor shown.now.contents revision.now }
-    ensures { IfOk result (PutsBack shown.now.contents revision.now) }
+pub fn standing(records: &CountedRecords, revision: &Revision) -> Result<Revision, AllocError>
+    requires { HasPlaceFor records.now.contents revision.now }
+    ensures { IfOk result (PutsBack records.now.contents revision.now) }
 {
     match revision {
         Revision::Available(name, _) => Ok(Revision::Available(
             *name,
-            shown.uncounted().resource(name).unwrap().available,
+            records.uncounted().resource(name).unwrap().available,
         )),
         Revision::Opened(workstation) => Ok(Revision::Opened(standing_workstation(
-            shown,
+            records,
             &workstation.name(),
         )?)),
         _ => Ok(Revision::Nothing),

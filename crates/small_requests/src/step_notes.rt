@@ -52,31 +52,31 @@ pub fn move_on(
 // What is noted of a plan that has these columns, by a look at each place. The error is always `Memory`.
 fn noted_of(
     alloc: Global,
-    shown: &mut CountedRecords,
+    records: &mut CountedRecords,
     latest: &Latest,
     columns: &FigureColumns,
     facilities: FacilityChange,
     touched: &[usize],
 ) -> Result<StepNotes, Refusal>
-    requires columns { AreColumnsOf shown.old.contents columns.now }
-    requires latest { AreLatestStarts shown.old.contents latest.now.starts }
-    requires touched { ArePlacesIn shown.old.contents touched.now }
-    ensures noted { IfOk result (IsNotedOf shown.old.contents facilities touched.now) }
-    ensures contents { shown.new.contents ≡ shown.old.contents }
-    ensures fewest { shown.old.looks ≤ shown.new.looks }
-    ensures most { shown.new.looks ≤ shown.old.looks + length touched.now }
-    ensures least { OnOk result ((18446744073709551615 ≤ shown.new.looks) ⊎ (shown.old.looks + length touched.now ≤ shown.new.looks)) }
+    requires columns { AreColumnsOf records.old.contents columns.now }
+    requires latest { AreLatestStarts records.old.contents latest.now.starts }
+    requires touched { ArePlacesIn records.old.contents touched.now }
+    ensures noted { IfOk result (IsNotedOf records.old.contents facilities touched.now) }
+    ensures contents { records.new.contents ≡ records.old.contents }
+    ensures fewest { records.old.looks ≤ records.new.looks }
+    ensures most { records.new.looks ≤ records.old.looks + length touched.now }
+    ensures least { OnOk result ((18446744073709551615 ≤ records.new.looks) ⊎ (records.old.looks + length touched.now ≤ records.new.looks)) }
     ensures refused { IfErr result (λ r. r ≡ Refusal.Memory) }
 {
-    shown.uncounted().are_sound();
+    records.uncounted().are_sound();
     let lent = SourceColumns {
         standings: &columns.standings,
         statuses: &columns.statuses,
         tallies: &columns.tallies,
         latest,
     };
-    let notes = notes_of(alloc, shown, lent, facilities, touched)?;
-    let columns = snapshot_of(alloc, &shown.uncounted(), columns, touched)?;
+    let notes = notes_of(alloc, records, lent, facilities, touched)?;
+    let columns = snapshot_of(alloc, &records.uncounted(), columns, touched)?;
     Ok(StepNotes { notes, columns })
 }
 
@@ -84,25 +84,32 @@ fn noted_of(
 /// follows is named. The columns are then as they were, and the ready list is that of the plan before. The error is always `Memory`.
 pub fn note(
     context: &StepContext<'_>,
-    shown: &mut CountedRecords,
+    records: &mut CountedRecords,
     columns: &mut FigureColumns,
     ready: &mut ReadyList,
     effects: &NamingEffects,
     facilities: FacilityChange,
 ) -> Result<StepNotes, Refusal>
-    requires { (P : Contents) × (at : ℕ) × (edited : List ℕ) × WereEffectsNamed P shown.old.contents at edited context.now.latest.now.starts columns.old ready.old effects.now }
+    requires { (P : Contents) × (at : ℕ) × (edited : List ℕ) × WereEffectsNamed P records.old.contents at edited context.now.latest.now.starts columns.old ready.old effects.now }
     ensures unchanged { AreAlike columns.new columns.old }
-    ensures ready { (P : Contents) (at : ℕ) (edited : List ℕ) → WereEffectsNamed P shown.old.contents at edited context.now.latest.now.starts columns.old ready.old effects.now → IsReadyListOf P ready.new }
-    ensures noted { IfOk result (IsNotedOf shown.old.contents facilities effects.now.touched.items) }
-    ensures contents { shown.new.contents ≡ shown.old.contents }
-    ensures fewest { shown.old.looks ≤ shown.new.looks }
-    ensures most { shown.new.looks ≤ shown.old.looks + length effects.now.touched.items }
-    ensures least { OnOk result ((18446744073709551615 ≤ shown.new.looks) ⊎ (shown.old.looks + length effects.now.touched.items ≤ shown.new.looks)) }
+    ensures ready { (P : Contents) (at : ℕ) (edited : List ℕ) → WereEffectsNamed P records.old.contents at edited context.now.latest.now.starts columns.old ready.old effects.now → IsReadyListOf P ready.new }
+    ensures noted { IfOk result (IsNotedOf records.old.contents facilities effects.now.touched.items) }
+    ensures contents { records.new.contents ≡ records.old.contents }
+    ensures fewest { records.old.looks ≤ records.new.looks }
+    ensures most { records.new.looks ≤ records.old.looks + length effects.now.touched.items }
+    ensures least { OnOk result ((18446744073709551615 ≤ records.new.looks) ⊎ (records.old.looks + length effects.now.touched.items ≤ records.new.looks)) }
     ensures refused { IfErr result (λ r. r ≡ Refusal.Memory) }
 {
-    move_on(&shown.uncounted(), columns, ready, effects);
+    move_on(&records.uncounted(), columns, ready, effects);
     let StepContext { alloc, latest, .. } = *context;
-    let noted = noted_of(alloc, shown, latest, columns, facilities, &effects.touched);
+    let noted = noted_of(
+        alloc,
+        records,
+        latest,
+        columns,
+        facilities,
+        &effects.touched,
+    );
     put_snapshot(columns, ready, &effects.old, &effects.entries);
     noted
 }

@@ -37,19 +37,19 @@ struct Undo {
 // All that it takes to write an edit and to take it back. The error is always `Memory`.
 fn undo_of(
     alloc: Global,
-    shown: &CountedRecords,
+    records: &CountedRecords,
     allocations: &Allocations,
     edit: &Edit,
 ) -> Result<Undo, Refusal>
-    requires edit { IsEditFor shown.now.contents edit.now }
-    requires allocations { AreAllocationsOf shown.now.contents allocations.now }
+    requires edit { IsEditFor records.now.contents edit.now }
+    requires allocations { AreAllocationsOf records.now.contents allocations.now }
     ensures forth { IfOk result (λ t. t.forth ≡ edit.now.revision) }
-    ensures back { IfOk result (λ t. PutsBack shown.now.contents edit.now.revision t.back) }
-    ensures allocations { IfOk result (λ t. AreAllocationsOf shown.now.contents t.allocations) }
+    ensures back { IfOk result (λ t. PutsBack records.now.contents edit.now.revision t.back) }
+    ensures allocations { IfOk result (λ t. AreAllocationsOf records.now.contents t.allocations) }
     ensures refused { IfErr result (λ r. r ≡ Refusal.Memory) }
 {
     let forth = edit.revision.try_clone()?;
-    let back = standing(shown, &edit.revision)?;
+    let back = standing(records, &edit.revision)?;
     let allocations = allocations.try_clone(alloc)?;
     Ok(Undo {
         forth,
@@ -62,63 +62,70 @@ fn undo_of(
 // error is always `Memory`.
 fn tried_step(
     context: &StepContext<'_>,
-    shown: CountedRecords,
+    records: CountedRecords,
     columns: &mut FigureColumns,
     ready: &mut ReadyList,
     allocations: &Allocations,
     edit: &Edit,
 ) -> (CountedRecords, Result<SmallStep, Refusal>)
-    requires graph { IsGraphFor shown.contents context.now.graph.now }
-    requires latest { AreLatestStarts shown.contents context.now.latest.now.starts }
-    requires figures { AreFigures shown.contents (figures_of columns.old ready.old allocations.now) }
-    requires edit { IsEditFor shown.contents edit.now }
-    ensures contents { result.0.contents ≡ shown.contents }
+    requires graph { IsGraphFor records.contents context.now.graph.now }
+    requires latest { AreLatestStarts records.contents context.now.latest.now.starts }
+    requires figures { AreFigures records.contents (figures_of columns.old ready.old allocations.now) }
+    requires edit { IsEditFor records.contents edit.now }
+    ensures contents { result.0.contents ≡ records.contents }
     ensures unchanged { AreAlike columns.new columns.old }
-    ensures ready { IsReadyListOf shown.contents ready.new }
-    ensures chosen { IfOk result.1 (λ s. IsChosen (edited edit.now shown.contents) context.now.at s.named.items) }
-    ensures figure_change { IfOk result.1 (λ s. IsFigureChange shown.contents (named_in s.named.items (edited edit.now shown.contents)) s.figure_change) }
-    ensures frame { IfOk result.1 (λ s. KeepsFrame shown.contents (named_in s.named.items (edited edit.now shown.contents))) }
-    ensures notes { IfOk result.1 (λ s. AreStepNotes shown.contents (named_in s.named.items (edited edit.now shown.contents)) s.notes) }
-    ensures looked { IfOk result.1 (λ s. IsStepLooked shown.contents (edited edit.now shown.contents) edit.now.is_rerun edit.now.places.items s.named.items (operations_noted s.notes) shown.looks result.0.looks) }
+    ensures ready { IsReadyListOf records.contents ready.new }
+    ensures chosen { IfOk result.1 (λ s. IsChosen (edited edit.now records.contents) context.now.at s.named.items) }
+    ensures figure_change { IfOk result.1 (λ s. IsFigureChange records.contents (named_in s.named.items (edited edit.now records.contents)) s.figure_change) }
+    ensures frame { IfOk result.1 (λ s. KeepsFrame records.contents (named_in s.named.items (edited edit.now records.contents))) }
+    ensures notes { IfOk result.1 (λ s. AreStepNotes records.contents (named_in s.named.items (edited edit.now records.contents)) s.notes) }
+    ensures looked { IfOk result.1 (λ s. IsStepLooked records.contents (edited edit.now records.contents) edit.now.is_rerun edit.now.places.items s.named.items (operations_noted s.notes) records.looks result.0.looks) }
     ensures refused { IfErr result.1 (λ r. r ≡ Refusal.Memory) }
 {
-    match undo_of(context.alloc, &shown, allocations, edit) {
+    match undo_of(context.alloc, &records, allocations, edit) {
         Ok(undo) => {
             let Undo {
                 forth,
                 back,
                 allocations,
             } = undo;
-            let after = with_revision(shown, &edit.keys, forth);
+            let after = with_revision(records, &edit.keys, forth);
             let (same, step) = step_after(context, after, columns, ready, allocations, edit);
             (without_edit(same, edit, back), step)
         }
-        Err(refusal) => (shown, Err(refusal)),
+        Err(refusal) => (records, Err(refusal)),
     }
 }
 
-/// What an edit of a plan leads to, which is made of what is shown, with these figures: at the moment the operations that are chosen are
+/// What an edit of a plan leads to, which is made of these records, with these figures: at the moment the operations that are chosen are
 /// named. It gives the same contents back, and figures of them, whether or not there was memory. The error is always `Memory`.
 pub fn small_step(
     context: &StepContext<'_>,
-    shown: CountedRecords,
+    records: CountedRecords,
     figures: Figures,
     edit: &Edit,
 ) -> (CountedRecords, Figures, Result<SmallStep, Refusal>)
-    requires graph { IsGraphFor shown.contents context.now.graph.now }
-    requires latest { AreLatestStarts shown.contents context.now.latest.now.starts }
-    requires figures { AreFigures shown.contents figures }
-    requires edit { IsEditFor shown.contents edit.now }
-    ensures contents { result.0.contents ≡ shown.contents }
-    ensures figures { AreFigures shown.contents result.1 }
-    ensures chosen { IfOk result.2 (λ s. IsChosen (edited edit.now shown.contents) context.now.at s.named.items) }
-    ensures figure_change { IfOk result.2 (λ s. IsFigureChange shown.contents (named_in s.named.items (edited edit.now shown.contents)) s.figure_change) }
-    ensures frame { IfOk result.2 (λ s. KeepsFrame shown.contents (named_in s.named.items (edited edit.now shown.contents))) }
-    ensures notes { IfOk result.2 (λ s. AreStepNotes shown.contents (named_in s.named.items (edited edit.now shown.contents)) s.notes) }
-    ensures looked { IfOk result.2 (λ s. IsStepLooked shown.contents (edited edit.now shown.contents) edit.now.is_rerun edit.now.places.items s.named.items (operations_noted s.notes) shown.looks result.0.looks) }
+    requires graph { IsGraphFor records.contents context.now.graph.now }
+    requires latest { AreLatestStarts records.contents context.now.latest.now.starts }
+    requires figures { AreFigures records.contents figures }
+    requires edit { IsEditFor records.contents edit.now }
+    ensures contents { result.0.contents ≡ records.contents }
+    ensures figures { AreFigures records.contents result.1 }
+    ensures chosen { IfOk result.2 (λ s. IsChosen (edited edit.now records.contents) context.now.at s.named.items) }
+    ensures figure_change { IfOk result.2 (λ s. IsFigureChange records.contents (named_in s.named.items (edited edit.now records.contents)) s.figure_change) }
+    ensures frame { IfOk result.2 (λ s. KeepsFrame records.contents (named_in s.named.items (edited edit.now records.contents))) }
+    ensures notes { IfOk result.2 (λ s. AreStepNotes records.contents (named_in s.named.items (edited edit.now records.contents)) s.notes) }
+    ensures looked { IfOk result.2 (λ s. IsStepLooked records.contents (edited edit.now records.contents) edit.now.is_rerun edit.now.places.items s.named.items (operations_noted s.notes) records.looks result.0.looks) }
     ensures refused { IfErr result.2 (λ r. r ≡ Refusal.Memory) }
 {
     let (mut columns, mut ready, allocations) = parts_of(figures);
-    let (same, step) = tried_step(context, shown, &mut columns, &mut ready, &allocations, edit);
+    let (same, step) = tried_step(
+        context,
+        records,
+        &mut columns,
+        &mut ready,
+        &allocations,
+        edit,
+    );
     (same, figures_with(columns, ready, allocations), step)
 }

@@ -19,38 +19,38 @@ use plan_checks::{CountedRecords, Figures};
 use plan_records::What;
 use plan_rows::DerivedRefs;
 
-/// What a small request in whose way nothing stands writes into a plan, of which this is shown, with these figures; and what that leads
+/// What a small request in whose way nothing stands writes into a plan, whose records these are, with these figures; and what that leads
 /// to, tried there. It gives the same contents back, and figures of them, whether or not there was memory. The error is always `Memory`.
 pub fn small_trial(
     context: &StepContext<'_>,
-    shown: CountedRecords,
+    records: CountedRecords,
     figures: Figures,
     what: &What,
 ) -> (CountedRecords, Figures, Result<(Edit, SmallStep), Refusal>)
-    requires graph { IsGraphFor shown.contents context.now.graph.now }
-    requires latest { AreLatestStarts shown.contents context.now.latest.now.starts }
-    requires figures { AreFigures shown.contents figures }
+    requires graph { IsGraphFor records.contents context.now.graph.now }
+    requires latest { AreLatestStarts records.contents context.now.latest.now.starts }
+    requires figures { AreFigures records.contents figures }
     requires small { IsSmall what.now }
-    requires clear { (at : ℕ) × IsMoment at × NoneRefuses (MayBeDone shown.contents at what.now) }
-    ensures contents { result.0.contents ≡ shown.contents }
-    ensures figures { AreFigures shown.contents result.1 }
-    ensures trial { IfOk result.2 (λ t. IsTrialOf shown.contents what.now context.now.at shown.looks result.0.looks t.0 t.1) }
+    requires clear { (at : ℕ) × IsMoment at × NoneRefuses (MayBeDone records.contents at what.now) }
+    ensures contents { result.0.contents ≡ records.contents }
+    ensures figures { AreFigures records.contents result.1 }
+    ensures trial { IfOk result.2 (λ t. IsTrialOf records.contents what.now context.now.at records.looks result.0.looks t.0 t.1) }
     ensures refused { IfErr result.2 (λ r. r ≡ Refusal.Memory) }
 {
-    let mut shown = shown;
+    let mut records = records;
     let derived = DerivedRefs {
         graph: context.graph,
         latest: context.latest,
         figures: &figures,
     };
-    match edit_of(context.alloc, &mut shown, derived, what) {
+    match edit_of(context.alloc, &mut records, derived, what) {
         Ok(edit) => {
-            let (shown, figures, step) = small_step(context, shown, figures, &edit);
+            let (records, figures, step) = small_step(context, records, figures, &edit);
             match step {
-                Ok(step) => (shown, figures, Ok((edit, step))),
-                Err(refusal) => (shown, figures, Err(refusal)),
+                Ok(step) => (records, figures, Ok((edit, step))),
+                Err(refusal) => (records, figures, Err(refusal)),
             }
         }
-        Err(refusal) => (shown, figures, Err(refusal)),
+        Err(refusal) => (records, figures, Err(refusal)),
     }
 }

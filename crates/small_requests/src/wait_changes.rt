@@ -30,25 +30,25 @@ pub struct WaitChange {
 fn cascade(
     alloc: Global,
     graph: &Graph,
-    shown: &mut CountedRecords,
+    records: &mut CountedRecords,
     edit: &Edit,
     wait_states: &mut [WaitState],
     journal: &mut Vec<(usize, WaitState)>,
 ) -> Result<(), AllocError>
-    requires before { (P : Contents) × IsKeptBefore P shown.old.contents edit.now graph.now wait_states.old }
+    requires before { (P : Contents) × IsKeptBefore P records.old.contents edit.now graph.now wait_states.old }
     requires journal { journal.old.items ≡ [] }
     ensures journaled { IsJournaled wait_states.old journal.old.items wait_states.new journal.new.items }
-    ensures wait_states { OnOk result (AreWaitStates shown.old.contents wait_states.new) }
+    ensures wait_states { OnOk result (AreWaitStates records.old.contents wait_states.new) }
     ensures noted { OnOk result (IsKeptElsewhere (map (λ e. e.0) journal.new.items) wait_states.old wait_states.new) }
     ensures within { OnOk result (AreBelow (length wait_states.old) (map (λ e. e.0) journal.new.items)) }
-    ensures contents { shown.new.contents ≡ shown.old.contents }
-    ensures fewest { shown.old.looks ≤ shown.new.looks }
-    ensures counted { OnOk result (IsCounted shown.old.contents edit.now 1 wait_states.old wait_states.new (map (λ e. e.0) journal.new.items) shown.old.looks shown.new.looks) }
+    ensures contents { records.new.contents ≡ records.old.contents }
+    ensures fewest { records.old.looks ≤ records.new.looks }
+    ensures counted { OnOk result (IsCounted records.old.contents edit.now 1 wait_states.old wait_states.new (map (λ e. e.0) journal.new.items) records.old.looks records.new.looks) }
 {
     if edit.is_rerun {
-        unsatisfy(alloc, graph, shown, wait_states, journal, &edit.places)
+        unsatisfy(alloc, graph, records, wait_states, journal, &edit.places)
     } else {
-        satisfy(alloc, graph, shown, wait_states, journal, &edit.places)
+        satisfy(alloc, graph, records, wait_states, journal, &edit.places)
     }
 }
 
@@ -56,20 +56,20 @@ fn cascade(
 fn counted(
     alloc: Global,
     graph: &Graph,
-    shown: &mut CountedRecords,
+    records: &mut CountedRecords,
     edit: &Edit,
     wait_states: &mut [WaitState],
     journal: &mut Vec<(usize, WaitState)>,
 ) -> Result<WaitChange, AllocError>
-    requires before { (P : Contents) × IsKeptBefore P shown.old.contents edit.now graph.now wait_states.old }
+    requires before { (P : Contents) × IsKeptBefore P records.old.contents edit.now graph.now wait_states.old }
     requires journal { journal.old.items ≡ [] }
     ensures journaled { IsJournaled wait_states.old journal.old.items wait_states.new journal.new.items }
-    ensures kept_then { IfOk result (IsWaitChange shown.old.contents edit.now.places.items wait_states.old) }
-    ensures contents { shown.new.contents ≡ shown.old.contents }
-    ensures fewest { shown.old.looks ≤ shown.new.looks }
-    ensures counted { IfOk result (λ k. IsCounted shown.old.contents edit.now 1 wait_states.old (overwritten k.wait_states.items wait_states.old) k.touched.items shown.old.looks shown.new.looks) }
+    ensures kept_then { IfOk result (IsWaitChange records.old.contents edit.now.places.items wait_states.old) }
+    ensures contents { records.new.contents ≡ records.old.contents }
+    ensures fewest { records.old.looks ≤ records.new.looks }
+    ensures counted { IfOk result (λ k. IsCounted records.old.contents edit.now 1 wait_states.old (overwritten k.wait_states.items wait_states.old) k.touched.items records.old.looks records.new.looks) }
 {
-    cascade(alloc, graph, shown, edit, wait_states, journal)?;
+    cascade(alloc, graph, records, edit, wait_states, journal)?;
     let noted = noted(alloc, journal)?;
     let touched = joined(alloc, &edit.places, &noted)?;
     let wait_states = values_at(alloc, wait_states, &touched)?;
@@ -83,19 +83,19 @@ fn counted(
 pub fn recount(
     alloc: Global,
     graph: &Graph,
-    shown: &mut CountedRecords,
+    records: &mut CountedRecords,
     edit: &Edit,
     wait_states: &mut [WaitState],
 ) -> Result<WaitChange, AllocError>
-    requires { (P : Contents) × IsKeptBefore P shown.old.contents edit.now graph.now wait_states.old }
+    requires { (P : Contents) × IsKeptBefore P records.old.contents edit.now graph.now wait_states.old }
     ensures unchanged { wait_states.new ≡ wait_states.old }
-    ensures kept_then { IfOk result (IsWaitChange shown.old.contents edit.now.places.items wait_states.old) }
-    ensures contents { shown.new.contents ≡ shown.old.contents }
-    ensures fewest { shown.old.looks ≤ shown.new.looks }
-    ensures counted { IfOk result (λ k. IsCounted shown.old.contents edit.now 1 wait_states.old (overwritten k.wait_states.items wait_states.old) k.touched.items shown.old.looks shown.new.looks) }
+    ensures kept_then { IfOk result (IsWaitChange records.old.contents edit.now.places.items wait_states.old) }
+    ensures contents { records.new.contents ≡ records.old.contents }
+    ensures fewest { records.old.looks ≤ records.new.looks }
+    ensures counted { IfOk result (λ k. IsCounted records.old.contents edit.now 1 wait_states.old (overwritten k.wait_states.items wait_states.old) k.touched.items records.old.looks records.new.looks) }
 {
     let mut journal = Vec::new(alloc);
-    let kept_then = counted(alloc, graph, shown, edit, wait_states, &mut journal);
+    let kept_then = counted(alloc, graph, records, edit, wait_states, &mut journal);
     take_back(wait_states, &mut journal);
     kept_then
 }

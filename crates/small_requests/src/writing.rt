@@ -13,50 +13,50 @@ use plan_checks::{CountedRecords, SoundContents, mark_all, set_held, set_nop};
 use plan_drafts::PlanContents;
 use status_rules::Mark;
 
-/// What is shown, with this written into it, by which it stays sound. It takes no memory and no look.
-pub fn with_revision(shown: CountedRecords, keys: &[OpKey], revision: Revision) -> CountedRecords
-    requires has_place { HasPlaceFor shown.contents revision }
-    requires sound { IsSound (written keys.now revision shown.contents) }
-    ensures contents { result.contents ≡ written keys.now revision shown.contents }
-    ensures looks { result.looks ≡ shown.looks }
+/// The records, with this written into them, by which they stay sound. It takes no memory and no look.
+pub fn with_revision(records: CountedRecords, keys: &[OpKey], revision: Revision) -> CountedRecords
+    requires has_place { HasPlaceFor records.contents revision }
+    requires sound { IsSound (written keys.now revision records.contents) }
+    ensures contents { result.contents ≡ written keys.now revision records.contents }
+    ensures looks { result.looks ≡ records.looks }
 {
     match revision {
-        Revision::Nothing => shown,
-        Revision::Mark(mark) => shown.mark_all(keys, &mark),
-        Revision::Held(key, held) => shown.set_held(&key, held),
-        Revision::Nop(key, nop) => shown.set_nop(&key, nop),
-        Revision::Available(name, available) => shown.set_available(&name, available),
-        Revision::Opened(workstation) => shown.set_workstation(workstation),
+        Revision::Nothing => records,
+        Revision::Mark(mark) => records.mark_all(keys, &mark),
+        Revision::Held(key, held) => records.set_held(&key, held),
+        Revision::Nop(key, nop) => records.set_nop(&key, nop),
+        Revision::Available(name, available) => records.set_available(&name, available),
+        Revision::Opened(workstation) => records.set_workstation(workstation),
     }
 }
 
-/// What is shown, with these operations, which were chosen, marked named. It takes no memory and no look.
-pub fn with_named(shown: CountedRecords, named: &[OpKey]) -> CountedRecords
-    requires { (m : ℕ) × IsChosen shown.contents m named.now }
-    ensures contents { result.contents ≡ named_in named.now shown.contents }
-    ensures looks { result.looks ≡ shown.looks }
+/// The records, with these operations, which were chosen, marked named. It takes no memory and no look.
+pub fn with_named(records: CountedRecords, named: &[OpKey]) -> CountedRecords
+    requires { (m : ℕ) × IsChosen records.contents m named.now }
+    ensures contents { result.contents ≡ named_in named.now records.contents }
+    ensures looks { result.looks ≡ records.looks }
 {
-    shown.uncounted().are_sound();
-    shown.mark_all(named, &Mark::Named)
+    records.uncounted().are_sound();
+    records.mark_all(named, &Mark::Named)
 }
 
 /// The sound plan in which these operations were chosen, which were marked named then: before that they were unmarked. It takes no
 /// memory and no look.
-pub fn without_named(shown: CountedRecords, named: &[OpKey]) -> CountedRecords
-    requires { (P : Contents) × IsSound P × ((m : ℕ) × IsChosen P m named.now) × (shown.contents ≡ named_in named.now P) }
-    ensures contents { (P : Contents) → ((m : ℕ) × IsChosen P m named.now) → shown.contents ≡ named_in named.now P → result.contents ≡ P }
-    ensures looks { result.looks ≡ shown.looks }
+pub fn without_named(records: CountedRecords, named: &[OpKey]) -> CountedRecords
+    requires { (P : Contents) × IsSound P × ((m : ℕ) × IsChosen P m named.now) × (records.contents ≡ named_in named.now P) }
+    ensures contents { (P : Contents) → ((m : ℕ) × IsChosen P m named.now) → records.contents ≡ named_in named.now P → result.contents ≡ P }
+    ensures looks { result.looks ≡ records.looks }
 {
-    shown.mark_all(named, &Mark::Unmarked)
+    records.mark_all(named, &Mark::Unmarked)
 }
 
 /// The plan into which an edit was written, where this is what stood beside operations. It takes no memory and no look.
-pub fn without_edit(shown: CountedRecords, edit: &Edit, old: Revision) -> CountedRecords
-    requires { (P : Contents) × WasWritten P shown.contents edit.now old }
-    ensures contents { (P : Contents) → WasWritten P shown.contents edit.now old → result.contents ≡ P }
-    ensures looks { result.looks ≡ shown.looks }
+pub fn without_edit(records: CountedRecords, edit: &Edit, old: Revision) -> CountedRecords
+    requires { (P : Contents) × WasWritten P records.contents edit.now old }
+    ensures contents { (P : Contents) → WasWritten P records.contents edit.now old → result.contents ≡ P }
+    ensures looks { result.looks ≡ records.looks }
 {
-    with_revision(shown.put_markings(&edit.keys, &edit.marks), &[], old)
+    with_revision(records.put_markings(&edit.keys, &edit.marks), &[], old)
 }
 
 // Writes a revision, a mark on the operations of these keys. It takes no memory.

@@ -26,7 +26,7 @@ pub record Counted : Type 0 where
   pub given : List Capacity
   pub held : Held
 
--- what is shown of a plan, the moment, and what is given out and held so far
+-- the counted records of a plan, the moment, and what is given out and held so far
 abbrev pub counted : CountedState → ℕ → List Capacity → Held → Counted
 counted s at given held = record { contents = s.contents; looks = s.looks; at = at; given = given; held = held }
 

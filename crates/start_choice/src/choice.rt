@@ -23,21 +23,21 @@ use workstations::Capacity;
 // Whether the operation at a place is allowed to start at a moment, where this is given out and held; where it is, it counts as
 // started from now on. The error is always `Memory`.
 fn name_at(
-    shown: &mut CountedRecords,
+    records: &mut CountedRecords,
     given: &mut [Capacity],
     holdings: &mut Holdings,
     shut: &mut [bool],
     place: usize,
     at: Moment,
 ) -> Result<bool, Refusal>
-    requires within { place < length (entries shown.old.contents.operations) }
-    requires shut { AreShut (entries shown.old.contents.workstations) at given.old shut.old }
-    ensures answered { IfOk result (λ yes. (e : ReadyEntryValue) (op : Operation) → slice_get (entries shown.old.contents.operations) place ≡ Some (e.key.op, op) → Answers (counted shown.old at given.old holdings.old.held) e yes (counted shown.new at given.new holdings.new.held)) }
-    ensures shut { AreShut (entries shown.new.contents.workstations) at given.new shut.new }
+    requires within { place < length (entries records.old.contents.operations) }
+    requires shut { AreShut (entries records.old.contents.workstations) at given.old shut.old }
+    ensures answered { IfOk result (λ yes. (e : ReadyEntryValue) (op : Operation) → slice_get (entries records.old.contents.operations) place ≡ Some (e.key.op, op) → Answers (counted records.old at given.old holdings.old.held) e yes (counted records.new at given.new holdings.new.held)) }
+    ensures shut { AreShut (entries records.new.contents.workstations) at given.new shut.new }
     ensures refused { IfErr result (λ r. r ≡ Refusal.Memory) }
-    ensures contents { shown.new.contents ≡ shown.old.contents }
+    ensures contents { records.new.contents ≡ records.old.contents }
 {
-    let seen = shown.see(place);
+    let seen = records.see(place);
     let station = seen.uncounted.workstation_place_near(seen.operation, place);
     let taken = given[station];
     if check_start(&seen, place, &taken, holdings, at).is_err() {
@@ -52,7 +52,7 @@ fn name_at(
 
 /// Allows operations of a plan to start at a moment, one after the other, and counts those as started that it allowed.
 struct StartGate {
-    shown: CountedRecords,
+    records: CountedRecords,
     at: Moment,
     /// What each workstation has given out, at its row's index.
     given: Vec<Capacity>,
@@ -70,9 +70,9 @@ impl Model for StartGate {
 
     ghost coded = { counted_code };
 
-    ghost view = { λ a. record { contents = a.shown.contents; looks = a.shown.looks; at = a.at; given = a.given.items; held = a.holdings.held } };
+    ghost view = { λ a. record { contents = a.records.contents; looks = a.records.looks; at = a.at; given = a.given.items; held = a.holdings.held } };
 
-    ghost invariant = { λ a. AreShut (entries a.shown.contents.workstations) a.at a.given.items a.shut.items };
+    ghost invariant = { λ a. AreShut (entries a.records.contents.workstations) a.at a.given.items a.shut.items };
 }
 
 // Whether this is told of an index.
@@ -102,14 +102,14 @@ impl Gate for StartGate {
         if is_told_shut(&self.shut, entry.site) {
             return Ok(false);
         }
-        let uncounted = self.shown.uncounted();
+        let uncounted = self.records.uncounted();
         let Some(place) = uncounted.operation_place_near(&entry.key.op, entry.place) else {
             return Ok(false);
         };
         let given = self.given.as_mut_slice();
         let shut = self.shut.as_mut_slice();
         name_at(
-            &mut self.shown,
+            &mut self.records,
             given,
             &mut self.holdings,
             shut,
@@ -131,27 +131,27 @@ pub struct Choice {
 // What is named to start at a moment, in order, where this is given out and held, and these workstations are told to be shut. The
 // error is always `Memory`.
 fn named_with(
-    shown: CountedRecords,
+    records: CountedRecords,
     ready: &ReadyList,
     at: Moment,
     given: Vec<Capacity>,
     holdings: Holdings,
     shut: Vec<bool>,
 ) -> (CountedRecords, Result<Choice, Refusal>)
-    requires ready { AreReadyEntries shown.contents ready.now.entries }
-    requires given { AreGivenOut shown.contents (entries shown.contents.workstations) given.items }
-    requires held { AreHeldIn shown.contents holdings.held }
-    requires shut { AreShut (entries shown.contents.workstations) at given.items shut.items }
-    ensures contents { result.0.contents ≡ shown.contents }
-    ensures fewest { IfOk result.1 (λ c. shown.looks ≤ result.0.looks) }
-    ensures most { IfOk result.1 (λ c. result.0.looks ≤ shown.looks + length ready.now.entries) }
-    ensures chosen { IfOk result.1 (λ c. IsChosen shown.contents at c.named.items) }
-    ensures given { IfOk result.1 (λ c. let after = named c.named.items shown.contents in AreGivenOut after (entries after.workstations) c.given.items) }
-    ensures held { IfOk result.1 (λ c. AreHeldIn (named c.named.items shown.contents) c.holdings.held) }
+    requires ready { AreReadyEntries records.contents ready.now.entries }
+    requires given { AreGivenOut records.contents (entries records.contents.workstations) given.items }
+    requires held { AreHeldIn records.contents holdings.held }
+    requires shut { AreShut (entries records.contents.workstations) at given.items shut.items }
+    ensures contents { result.0.contents ≡ records.contents }
+    ensures fewest { IfOk result.1 (λ c. records.looks ≤ result.0.looks) }
+    ensures most { IfOk result.1 (λ c. result.0.looks ≤ records.looks + length ready.now.entries) }
+    ensures chosen { IfOk result.1 (λ c. IsChosen records.contents at c.named.items) }
+    ensures given { IfOk result.1 (λ c. let after = named c.named.items records.contents in AreGivenOut after (entries after.workstations) c.given.items) }
+    ensures held { IfOk result.1 (λ c. AreHeldIn (named c.named.items records.contents) c.holdings.held) }
     ensures refused { IfErr result.1 (λ r. r ≡ Refusal.Memory) }
 {
     let mut gate = StartGate {
-        shown,
+        records,
         at,
         given,
         holdings,
@@ -159,7 +159,7 @@ fn named_with(
     };
     let named = ready.choose(&mut gate);
     let StartGate {
-        shown,
+        records,
         at: _,
         given,
         holdings,
@@ -172,9 +172,9 @@ fn named_with(
                 given,
                 holdings,
             };
-            (shown, Ok(choice))
+            (records, Ok(choice))
         }
-        Err(refusal) => (shown, Err(refusal)),
+        Err(refusal) => (records, Err(refusal)),
     }
 }
 
@@ -182,42 +182,42 @@ fn named_with(
 // `Memory`.
 fn shut_in(
     alloc: Global,
-    shown: &CountedRecords,
+    records: &CountedRecords,
     at: Moment,
     given: &[Capacity],
 ) -> Result<Vec<bool>, Refusal>
-    requires { length given.now ≡ length (entries shown.now.contents.workstations) }
-    ensures shut { IfOk result (λ shut. AreShut (entries shown.now.contents.workstations) at given.now shut.items) }
+    requires { length given.now ≡ length (entries records.now.contents.workstations) }
+    ensures shut { IfOk result (λ shut. AreShut (entries records.now.contents.workstations) at given.now shut.items) }
     ensures refused { IfErr result (λ r. r ≡ Refusal.Memory) }
 {
-    Ok(shut_at(alloc, shown.uncounted().workstations(), at, given)?)
+    Ok(shut_at(alloc, records.uncounted().workstations(), at, given)?)
 }
 
 /// What is named to start at a moment, in order, where this is given out and held: from the front of the ready list, each
 /// operation on an automatic workstation that is allowed to start once those before it are named; the others are passed over
 /// (IBM OPC/ESA, Planning and Scheduling the Workload). It takes a look at each entry of the list at most, and none where the
-/// workstation is closed or has no server left, and gives back what is shown. The error is always `Memory`.
+/// workstation is closed or has no server left, and gives back the records. The error is always `Memory`.
 pub fn chosen_with(
     alloc: Global,
-    shown: CountedRecords,
+    records: CountedRecords,
     ready: &ReadyList,
     at: Moment,
     given: Vec<Capacity>,
     holdings: Holdings,
 ) -> (CountedRecords, Result<Choice, Refusal>)
-    requires ready { AreReadyEntries shown.contents ready.now.entries }
-    requires given { AreGivenOut shown.contents (entries shown.contents.workstations) given.items }
-    requires held { AreHeldIn shown.contents holdings.held }
-    ensures contents { result.0.contents ≡ shown.contents }
-    ensures fewest { IfOk result.1 (λ c. shown.looks ≤ result.0.looks) }
-    ensures most { IfOk result.1 (λ c. result.0.looks ≤ shown.looks + length ready.now.entries) }
-    ensures chosen { IfOk result.1 (λ c. IsChosen shown.contents at c.named.items) }
-    ensures given { IfOk result.1 (λ c. let after = named c.named.items shown.contents in AreGivenOut after (entries after.workstations) c.given.items) }
-    ensures held { IfOk result.1 (λ c. AreHeldIn (named c.named.items shown.contents) c.holdings.held) }
+    requires ready { AreReadyEntries records.contents ready.now.entries }
+    requires given { AreGivenOut records.contents (entries records.contents.workstations) given.items }
+    requires held { AreHeldIn records.contents holdings.held }
+    ensures contents { result.0.contents ≡ records.contents }
+    ensures fewest { IfOk result.1 (λ c. records.looks ≤ result.0.looks) }
+    ensures most { IfOk result.1 (λ c. result.0.looks ≤ records.looks + length ready.now.entries) }
+    ensures chosen { IfOk result.1 (λ c. IsChosen records.contents at c.named.items) }
+    ensures given { IfOk result.1 (λ c. let after = named c.named.items records.contents in AreGivenOut after (entries after.workstations) c.given.items) }
+    ensures held { IfOk result.1 (λ c. AreHeldIn (named c.named.items records.contents) c.holdings.held) }
     ensures refused { IfErr result.1 (λ r. r ≡ Refusal.Memory) }
 {
-    match shut_in(alloc, &shown, at, &given) {
-        Ok(shut) => named_with(shown, ready, at, given, holdings, shut),
-        Err(refusal) => (shown, Err(refusal)),
+    match shut_in(alloc, &records, at, &given) {
+        Ok(shut) => named_with(records, ready, at, given, holdings, shut),
+        Err(refusal) => (records, Err(refusal)),
     }
 }

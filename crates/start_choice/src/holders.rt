@@ -52,9 +52,9 @@ pub fn take_needs(
     take_marked(holdings, key, operation, &Mark::Named)
 }
 
-/// Who holds what of special resources in contents that aren't shown: an operation on a workstation where starts are known that is
-/// started, undecided or interrupted holds what it needs; one that ended in error holds what an error keeps. The error is always
-/// `Memory`.
+/// Who holds what of special resources in contents of which no looks are counted: an operation on a workstation where starts are known
+/// that is started, undecided or interrupted holds what it needs; one that ended in error holds what an error keeps. The error is
+/// always `Memory`.
 pub fn holdings_in(alloc: Global, contents: &ValidContents) -> Result<Holdings, Refusal>
     ensures held { IfOk result (λ found. AreHeldIn contents.now found.held) }
     ensures refused { IfErr result (λ r. r ≡ Refusal.Memory) }
@@ -78,19 +78,23 @@ fn may_hold(summary: &OperationSummary) -> bool
 
 // Takes what the operation at a place holds of what it needs, unless it holds it already, by a look. The error is always `Memory`:
 // then it may have taken a part of it.
-fn take_at(shown: &mut CountedRecords, holdings: &mut Holdings, place: usize) -> Result<(), Refusal>
-    requires { place < length (entries shown.old.contents.operations) }
-    ensures taken { OnOk result ((o : OpKeyValue) → (op : Operation) → slice_get (entries shown.old.contents.operations) place ≡ Some (o, op) → HaveTaken holdings.old.held o op.needs op.mark holdings.new.held) }
-    ensures contents { shown.new.contents ≡ shown.old.contents }
-    ensures fewest { shown.old.looks ≤ shown.new.looks }
-    ensures most { shown.new.looks ≤ shown.old.looks + 1 }
+fn take_at(
+    records: &mut CountedRecords,
+    holdings: &mut Holdings,
+    place: usize,
+) -> Result<(), Refusal>
+    requires { place < length (entries records.old.contents.operations) }
+    ensures taken { OnOk result ((o : OpKeyValue) → (op : Operation) → slice_get (entries records.old.contents.operations) place ≡ Some (o, op) → HaveTaken holdings.old.held o op.needs op.mark holdings.new.held) }
+    ensures contents { records.new.contents ≡ records.old.contents }
+    ensures fewest { records.old.looks ≤ records.new.looks }
+    ensures most { records.new.looks ≤ records.old.looks + 1 }
     ensures refused { IfErr result (λ r. r ≡ Refusal.Memory) }
 {
     let SeenOperation {
         key,
         operation,
         uncounted: _,
-    } = shown.see(place);
+    } = records.see(place);
     take_marked(holdings, key, operation, &operation.mark)
 }
 
@@ -99,20 +103,20 @@ fn take_at(shown: &mut CountedRecords, holdings: &mut Holdings, place: usize) ->
 /// each of these once. The error is always `Memory`.
 pub fn holdings_of(
     alloc: Global,
-    shown: &mut CountedRecords,
+    records: &mut CountedRecords,
     summaries: &[OperationSummary],
 ) -> Result<Holdings, Refusal>
-    requires { AreSummaries shown.old.contents summaries.now }
-    ensures held { IfOk result (λ found. AreHeldIn shown.old.contents found.held) }
-    ensures contents { shown.new.contents ≡ shown.old.contents }
-    ensures fewest { shown.old.looks ≤ shown.new.looks }
-    ensures most { shown.new.looks ≤ shown.old.looks + holder_count summaries.now }
+    requires { AreSummaries records.old.contents summaries.now }
+    ensures held { IfOk result (λ found. AreHeldIn records.old.contents found.held) }
+    ensures contents { records.new.contents ≡ records.old.contents }
+    ensures fewest { records.old.looks ≤ records.new.looks }
+    ensures most { records.new.looks ≤ records.old.looks + holder_count summaries.now }
     ensures refused { IfErr result (λ r. r ≡ Refusal.Memory) }
 {
     let mut holdings = Holdings::new(alloc);
     for place in 0..summaries.len() {
         if may_hold(&summaries[place]) {
-            take_at(shown, &mut holdings, place)?;
+            take_at(records, &mut holdings, place)?;
         }
     }
     Ok(holdings)

@@ -14,7 +14,7 @@ ghost use Rattle.start_choice.specs.Takings.{CanMeetNeed, CanMeetNeeds, CanStart
 use counted_records::{
     OperationSummary, SeenOperation, UncountedContents, ValidContents, attribute_of,
 };
-use plan_basics::{Attr, Moment, OpKey, Refusal};
+use plan_basics::{Moment, OpKey, Refusal};
 use plan_model::OperationRecord;
 use special_resources::{Holdings, Need};
 use std::alloc::{AllocError, Global};
@@ -32,10 +32,7 @@ pub fn starts_are_known(contents: &ValidContents, operation: &OperationRecord) -
     requires { (o : OpKey) × (get contents.now.operations o ≡ Some operation.now) }
     ensures { result ≡ takes (attribute_at contents.now operation.now.workstation) }
 {
-    match attribute_of(contents, operation) {
-        Attr::Automatic | Attr::StartAndCompletion => true,
-        Attr::CompletionOnly | Attr::Nonreporting => false,
-    }
+    attribute_of(contents, operation).knows_starts()
 }
 
 // Whether an operation holds a server of its workstation.

@@ -1,7 +1,9 @@
--- Classes of statuses and of marks: by them operations are listed, started, reported and commanded, and hold what they took.
+-- Classes of statuses and of marks: by them operations are listed, started, reported and commanded, and hold what they took, and occurrences leave.
 use Rattle.std.specs.Prelude.{Bool, true, false, ◌||◌, Option, Some}
 use Rattle.status_rules.specs.declared.Mark.{Mark}
 use Rattle.status_rules.specs.declared.Mark.TheVariants as mark
+use Rattle.status_rules.specs.declared.OccStatus.{OccStatus}
+use Rattle.status_rules.specs.declared.OccStatus.TheVariants as occurrence
 use Rattle.status_rules.specs.declared.Status.{Status}
 use Rattle.status_rules.specs.declared.Status.TheVariants as status
 
@@ -49,6 +51,14 @@ is_rerunnable status.Complete = true
 is_rerunnable status.Error = true
 is_rerunnable status.Undecided = true
 is_rerunnable _ = false
+
+-- ---- statuses of occurrences
+
+-- complete (C) or deleted (D): it leaves the plan where that is extended
+abbrev pub is_over : OccStatus → Bool
+is_over occurrence.Complete = true
+is_over occurrence.Deleted = true
+is_over _ = false
 
 -- ---- what an operation holds, by the status that its mark decides: none where nothing was reported
 

@@ -1,9 +1,9 @@
 // Classes of statuses and of marks.
 ghost use Rattle.std.specs.Prelude.{◌≡◌, Some};
-ghost use Rattle.status_rules.specs.Classes.{is_ready, is_waiting_or_ready, is_under_way, is_satisfied, is_startable, is_completable, is_rerunnable, is_live, holds_server, holds_resource};
+ghost use Rattle.status_rules.specs.Classes.{is_ready, is_waiting_or_ready, is_under_way, is_satisfied, is_startable, is_completable, is_rerunnable, is_live, is_over, holds_server, holds_resource};
 ghost use Rattle.status_rules.specs.Table.{marked_status};
 
-use super::{Mark, Status};
+use super::{Mark, OccStatus, Status};
 
 impl Status {
     /// Arriving or ready: such operations are in the ready list.
@@ -84,6 +84,15 @@ impl Status {
         ensures { result ≡ holds_server (Some self) }
     {
         matches!(self, Status::Started | Status::Undecided)
+    }
+}
+
+impl OccStatus {
+    /// Complete or deleted: such occurrences leave a plan that is extended.
+    pub fn is_over(self) -> bool
+        ensures { result ≡ is_over self }
+    {
+        matches!(self, OccStatus::Complete | OccStatus::Deleted)
     }
 }
 

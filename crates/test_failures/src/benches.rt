@@ -1,15 +1,15 @@
 // Desks over a store, of which contracts see nothing: each call of a desk is made here alone.
-use desk_serving::{KnownStarts, Terms, serve_wanted};
-use plan_basics::{OpKey, Refusal, Watched, WsName};
+use desk_serving::{
+    Desk, KnownStarts, Plan, ReportFault, Terms, open_again, ready_report, serve_one, serve_wanted,
+};
+pub use desk_serving::{Journal, ServeFault, WireFault, read_operator};
+use plan_basics::{OpKey, Refusal, TrackerName, Watched, WsName};
 use plan_records::{Reply, Request};
-use plan_reports::{ReportFault, ready_report};
 use sqlite::{Alter, Connection};
 use sqlite_trees::store::Reopen;
 use std::alloc::Global;
 use std::io::Write;
 use test_wires::{Paper, Pieces, Unseen};
-use tracker_http::{Desk, Plan, open_again, serve_one};
-pub use tracker_http::{Journal, ServeFault, WireFault, read_operator};
 
 /// A desk over a store.
 pub type Bench<S> = Unseen<Desk<S>>;
@@ -28,8 +28,8 @@ pub enum Had {
     OpenedAgain,
 }
 
-// One that is made over a connection.
-fn created<S: Alter + Drop>(alloc: Global, conn: Connection<S>) -> Opening<S> {
+/// One that is made over a connection.
+pub fn created<S: Alter + Drop>(alloc: Global, conn: Connection<S>) -> Opening<S> {
     match Desk::create(alloc, conn) {
         Ok(held) => Ok(Unseen { held }),
         Err((refusal, conn)) => Err((refusal, Some(conn))),
@@ -74,6 +74,17 @@ pub fn closed<S: Alter + Drop>(bench: Bench<S>) -> Connection<S> {
 /// What a desk replies to an operator's request.
 pub fn called<S: Alter + Drop>(bench: &mut Bench<S>, request: &Request) -> Reply {
     bench.held.call(request)
+}
+
+/// What it replies to a tracker's request of this number and this text.
+pub fn called_numbered<S: Alter + Drop>(
+    bench: &mut Bench<S>,
+    tracker: &TrackerName,
+    number: u64,
+    text: &[u8],
+    request: &Request,
+) -> Reply {
+    bench.held.call_numbered(tracker, number, text, request)
 }
 
 /// Serves a connection, as one of so many; or why it is broken off.

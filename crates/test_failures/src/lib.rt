@@ -1,13 +1,14 @@
 //! A desk over two files in memory, one of which fails from some call on, and what is found when it is opened again: while it
 //! works, in a request of each kind, between its calls, while it opens tables of the first version, and while it recovers from
-//! such a stop; tables that are damaged; desks in want of memory; and connections of which the reader, the writer or the journal
-//! fails. What is done is told by scripts, a line for each turn. For the crate of tests alone: each public function plays one
+//! such a stop; tables that are damaged; desks in want of memory; connections of which the reader, the writer or the journal
+//! fails; and how many rows each request writes. What is done is told by scripts, a line for each turn. For the crate of tests alone: each public function plays one
 //! matter, and its error is what goes otherwise.
 #![tactic(auto)]
 
 mod benches;
 mod cases;
 mod connections;
+mod counted;
 mod damages;
 mod deeds;
 mod disks;
@@ -19,6 +20,7 @@ mod scripts;
 mod sweeps;
 mod turns;
 mod want;
+mod written;
 
 pub use damages::damaged_tables_are_not_opened;
 pub use disks::End;
@@ -31,6 +33,7 @@ pub use sweeps::{
     the_power_cut_after_each_step,
 };
 pub use want::{each_played, played};
+pub use written::{none_is_made, rows_that_are_written};
 
 /// What a play fails for where it is no difference.
 const FAILED: &str = "no memory";

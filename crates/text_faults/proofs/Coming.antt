@@ -27,8 +27,8 @@ use Rattle.plan_drafts.specs.PlanItems.{BelongsTo, as_occurrence, keys_said, nee
 use Rattle.plan_drafts.specs.ExtensionItems.{MayComeIn, AreTheirOperations, IsNeedOf, AreNewNeeds, IsEndAmong, IsPairAmong, ArePairsAmong, ComeInTogether}
 use Rattle.plan_drafts.proofs.Lists.{Differ, differ_from_pairs, differ_filter, in_map, from_filter}
 use Rattle.plan_drafts.proofs.Tables.{itself}
-use Rattle.plan_drafts.proofs.ItemKinds as kinds
-use Rattle.plan_drafts.proofs.ItemKinds.{occurrences_in, operations_in, needs_in, pairs_in, key_in, key_out, read_stands, read_distinct}
+use Rattle.record_faults.specs.plan_denotation.proofs.ItemKinds as kinds
+use Rattle.record_faults.specs.plan_denotation.proofs.ItemKinds.{occurrences_in, operations_in, needs_in, pairs_in, key_in, key_out, read_stands, read_distinct}
 use Rattle.record_faults.specs.declared.faults.Fault.{Fault}
 use Rattle.record_faults.specs.declared.faults.Fault.TheVariants as fault
 use Rattle.record_faults.specs.declared.groups.Group.{Group}

@@ -20,8 +20,8 @@ use Rattle.plan_drafts.specs.Records.{key_of}
 use Rattle.plan_drafts.specs.PlanItems.{BelongsTo, as_occurrence, as_operation, as_pair, as_need, keys_said, needs_of, occurrence_of}
 use Rattle.plan_drafts.specs.ExtensionItems.{MayComeIn, IsNeedOf, IsPairAmong, ComeInTogether}
 use Rattle.plan_drafts.proofs.Lists.{in_filter, from_map, sole_member}
-use Rattle.plan_drafts.proofs.ItemKinds as kinds
-use Rattle.plan_drafts.proofs.ItemKinds.{occurrences_in, operations_in, needs_in, pairs_in, key_in, key_out, read_in}
+use Rattle.record_faults.specs.plan_denotation.proofs.ItemKinds as kinds
+use Rattle.record_faults.specs.plan_denotation.proofs.ItemKinds.{occurrences_in, operations_in, needs_in, pairs_in, key_in, key_out, read_in}
 use Rattle.record_faults.specs.declared.faults.Fault.{Fault}
 use Rattle.record_faults.specs.declared.faults.Fault.TheVariants as fault
 use Rattle.record_faults.specs.declared.names.Naming.{Naming}

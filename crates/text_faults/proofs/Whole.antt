@@ -25,10 +25,10 @@ use Rattle.plan_drafts.specs.ExtensionItems.{ComeInTogether, AreExtensionOf}
 use Rattle.plan_drafts.specs.Records.{DenotesExtension}
 use Rattle.plan_drafts.proofs.Lists.{differ_from_pairs, differ_map, length_map, no_members}
 use Rattle.plan_drafts.proofs.Pairs.{pair_cmp_total, pair_cmp-IsAntisymmetric}
-use Rattle.plan_drafts.proofs.ItemKinds.{occurrences_in, operations_in, needs_in, pairs_in}
-use Rattle.plan_drafts.proofs.DenotingExtensions.{addition_denoted, extension_denoted, not_one_denoted}
-use Rattle.plan_drafts.proofs.NeededExtensions.{needed_extension}
-use Rattle.plan_drafts.proofs.Unique.{as_extension}
+use Rattle.record_faults.specs.plan_denotation.proofs.ItemKinds.{occurrences_in, operations_in, needs_in, pairs_in}
+use Rattle.record_faults.specs.plan_denotation.proofs.DenotingExtensions.{addition_denoted, extension_denoted, not_one_denoted}
+use Rattle.record_faults.specs.plan_denotation.proofs.NeededExtensions.{needed_extension}
+use Rattle.record_faults.specs.plan_denotation.proofs.Unique.{as_extension}
 use Rattle.record_faults.specs.declared.faults.Fault.TheVariants as fault
 use Rattle.record_faults.specs.Sayings.{Sayings, SaysOrNot, AreSayings}
 use Rattle.record_faults.proofs.Denoted.{all_said, said_all}

@@ -4,91 +4,72 @@ ghost use Rattle.std.specs.String.{string_bytes};
 ghost use Rattle.text_faults.specs.TextFaults.{line_at};
 
 use super::faults::TextFaults;
-use plan_basics::OpKey;
+use plan_basics::{AppId, OpKey, ResName, WsName};
 use plan_drafts::RowKey;
 use record_faults::{Circle, Fault, Form, Group, Kind, RecordFault, Shape, most};
 use std::alloc::{AllocError, Global};
 
-// The names of the nine fields after a kind's letter.
-fn field_names(kind: Kind) -> [&'static str; 9] {
+// The names of the fields after each kind's letter, but for those behind, which are empty.
+const WORKSTATION: [&str; 2] = ["name", "attribute"];
+
+const INTERVAL: [&str; 6] = ["workstation", "first minute", "end", "servers", "R1", "R2"];
+
+const RESOURCE: [&str; 3] = ["name", "available", "quantity"];
+
+const OCCURRENCE: [&str; 4] = ["application", "input arrival", "priority", "deadline"];
+
+const OPERATION: [&str; 9] = [
+    "application",
+    "input arrival",
+    "number",
+    "workstation",
+    "duration",
+    "R1",
+    "R2",
+    "not-before",
+    "deadline",
+];
+
+const DEPENDENCY: [&str; 6] = [
+    "predecessor's application",
+    "predecessor's input arrival",
+    "predecessor's number",
+    "successor's application",
+    "successor's input arrival",
+    "successor's number",
+];
+
+const NEED: [&str; 7] = [
+    "application",
+    "input arrival",
+    "number",
+    "special resource",
+    "mode",
+    "keep",
+    "amount",
+];
+
+// The names of the fields after a kind's letter that have one.
+fn field_names(kind: Kind) -> &'static [&'static str] {
     match kind {
-        Kind::Workstation => [
-            "name",
-            "attribute",
-            "field 4",
-            "field 5",
-            "field 6",
-            "field 7",
-            "field 8",
-            "field 9",
-            "field 10",
-        ],
-        Kind::Interval => [
-            "workstation",
-            "first minute",
-            "end",
-            "servers",
-            "R1",
-            "R2",
-            "field 8",
-            "field 9",
-            "field 10",
-        ],
-        Kind::Resource => [
-            "name",
-            "available",
-            "quantity",
-            "field 5",
-            "field 6",
-            "field 7",
-            "field 8",
-            "field 9",
-            "field 10",
-        ],
-        Kind::Occurrence => [
-            "application",
-            "input arrival",
-            "priority",
-            "deadline",
-            "field 6",
-            "field 7",
-            "field 8",
-            "field 9",
-            "field 10",
-        ],
-        Kind::Operation => [
-            "application",
-            "input arrival",
-            "number",
-            "workstation",
-            "duration",
-            "R1",
-            "R2",
-            "not-before",
-            "deadline",
-        ],
-        Kind::Dependency => [
-            "predecessor's application",
-            "predecessor's input arrival",
-            "predecessor's number",
-            "successor's application",
-            "successor's input arrival",
-            "successor's number",
-            "field 8",
-            "field 9",
-            "field 10",
-        ],
-        Kind::Need => [
-            "application",
-            "input arrival",
-            "number",
-            "special resource",
-            "mode",
-            "keep",
-            "amount",
-            "field 9",
-            "field 10",
-        ],
+        Kind::Workstation => &WORKSTATION,
+        Kind::Interval => &INTERVAL,
+        Kind::Resource => &RESOURCE,
+        Kind::Occurrence => &OCCURRENCE,
+        Kind::Operation => &OPERATION,
+        Kind::Dependency => &DEPENDENCY,
+        Kind::Need => &NEED,
+    }
+}
+
+// The name of a field by its index among those after the letter: its number in the record where it has none.
+fn field_name(alloc: Global, kind: Kind, place: usize) -> Result<String, AllocError> {
+    match field_names(kind).get(place) {
+        Some(name) => String::from_str(alloc, name),
+        None => {
+            let number = place.saturating_add(2);
+            format!(in alloc; "field {number}")
+        }
     }
 }
 
@@ -108,15 +89,9 @@ fn kind_name(kind: Kind) -> &'static str {
 // What a field of a form may be.
 fn may_be(alloc: Global, form: Form) -> Result<String, AllocError> {
     match form {
-        Form::WorkstationName => format!(in alloc;
-            "a name of 1 to 4 characters of A-Z, 0-9, @, # and $"
-        ),
-        Form::ApplicationName => format!(in alloc;
-            "a name of 1 to 16 characters of A-Z, 0-9, @, # and $"
-        ),
-        Form::ResourceName => format!(in alloc;
-            "a name of 1 to 44 characters of A-Z, 0-9, @, #, $, . and -"
-        ),
+        Form::WorkstationName => format!(in alloc; "a name of {}", WsName::FORM),
+        Form::ApplicationName => format!(in alloc; "a name of {}", AppId::FORM),
+        Form::ResourceName => format!(in alloc; "a name of {}", ResName::FORM),
         Form::Attribute => format!(in alloc; "A, S, C or N"),
         Form::OneOf(first, second) => format!(in alloc;
             "{} or {}",
@@ -159,11 +134,7 @@ fn shape_text(alloc: Global, shape: Shape) -> Result<String, AllocError> {
             "unknown kind: the first field is W, I, X, O, P, D or N"
         ),
         Shape::Field { kind, place, form } => {
-            let names = field_names(kind);
-            let name = match names.get(place) {
-                Some(name) => *name,
-                None => "field",
-            };
+            let name = field_name(alloc, kind, place)?;
             let form = may_be(alloc, form)?;
             format!(in alloc; "{}: {name}: must be {form}", kind_name(kind))
         }

@@ -8,7 +8,7 @@ use Rattle.http_messages.specs.declared.asking.Asked.{Asked}
 use Rattle.plan_basics.specs.Watched.{AppendsBeginning}
 use Rattle.desk_tables.specs.Desk.{DeskState}
 use Rattle.tracker_http.specs.Journalled.{answer_lines, request_lines, Takes}
-use Rattle.desk_replies.specs.declared.told.Told.{Told}
+use Rattle.tracker_http.specs.declared.told.Told.{Told}
 use Rattle.desk_journal.specs.Journals.{Journals}
 use Rattle.desk_journal.specs.declared.journal.JournalFault.{JournalFault}
 use Rattle.desk_journal.specs.declared.journal.JournalFault.TheVariants as fault

@@ -4,12 +4,12 @@ use Rattle.std.specs.Io.KnownBytes.{Keeps, Appends}
 use Rattle.sqlite.specs.Held.{state}
 use Rattle.sqlite.specs.Store.{Ghosts}
 use Rattle.plan_basics.specs.Watched.{AppendsBeginning}
-use Rattle.desk_replies.specs.request_json.specs.declared.WireFault.{WireFault}
-use Rattle.desk_replies.specs.request_json.specs.declared.WireFault.TheVariants as fault
+use Rattle.request_json.specs.declared.WireFault.{WireFault}
+use Rattle.request_json.specs.declared.WireFault.TheVariants as fault
 use Rattle.desk_tables.specs.Desk.{DeskState}
 use Rattle.tracker_http.specs.Exchange.{seen, IsTold, StaysOpen, Ends}
-use Rattle.desk_replies.specs.Told.{reply_of}
-use Rattle.desk_replies.specs.declared.told.Told.{Told}
+use Rattle.tracker_http.specs.Told.{reply_of}
+use Rattle.tracker_http.specs.declared.told.Told.{Told}
 
 -- known bytes that stay keep themselves
 pub keeps_itself : (known : Option (List ℕ)) → Keeps known known

@@ -5,7 +5,7 @@ use Rattle.http_messages.specs.declared.asking.Asked.TheVariants as asked
 use Rattle.plan_records.specs.Run.{plain}
 use Rattle.tracker_http.specs.Exchange.{Seen, Tells, TellsAnswer, report_call}
 use Rattle.tracker_http.specs.Guard.{Guarded, TellsWithin}
-use Rattle.desk_replies.specs.declared.told.Told.{Told}
+use Rattle.tracker_http.specs.declared.told.Told.{Told}
 
 -- there is nothing that is too far ahead
 unguarded : (at : ℤ) (TellsUnguarded : Seen → Told → Seen → Type 0) (s : Seen) (x : Told) (t : Seen) → Guarded None at TellsUnguarded s x t → TellsUnguarded s x t

@@ -3,7 +3,7 @@ use Rattle.std.specs.Prelude.{Result, IfOk, ⊤}
 use Rattle.sqlite.specs.Held.{state}
 use Rattle.sqlite.specs.State.{Survives}
 use Rattle.sqlite.specs.Store.{Ghosts}
-use Rattle.desk_replies.specs.declared.told.Told.{Told}
+use Rattle.tracker_http.specs.declared.told.Told.{Told}
 use Rattle.desk_tables.specs.Desk.{DeskState, HoldsState, IsClean, state_of}
 use Rattle.tracker_http.specs.Exchange.{StaysOpen}
 

@@ -17,14 +17,14 @@ use Rattle.plan_records.specs.Run as run
 use Rattle.plan_records.specs.declared.Request.{Request}
 use Rattle.desk_tables.specs.Desk.{DeskState, state_of, usability}
 use Rattle.desk_tables.specs.Shut.{may_have_shut}
-use Rattle.desk_replies.specs.request_json.specs.Requests.{ReadsAsRequest, ReadsAsReport}
-use Rattle.desk_replies.specs.request_json.specs.declared.NumberedRequest.{NumberedRequest}
-use Rattle.desk_replies.specs.request_json.specs.declared.WireFault.TheVariants as fault
-use Rattle.desk_replies.specs.request_json.specs.declared.WireFault.{WireFault}
+use Rattle.request_json.specs.Requests.{ReadsAsRequest, ReadsAsReport}
+use Rattle.request_json.specs.declared.NumberedRequest.{NumberedRequest}
+use Rattle.request_json.specs.declared.WireFault.TheVariants as fault
+use Rattle.request_json.specs.declared.WireFault.{WireFault}
 use Rattle.tracker_http.specs.Lists.{TellsReady, TellsOccurrences, TellsList}
-use Rattle.desk_replies.specs.Told.{reply_of}
-use Rattle.desk_replies.specs.declared.told.Told.{Told}
-use Rattle.desk_replies.specs.declared.told.Told.TheVariants as told
+use Rattle.tracker_http.specs.Told.{reply_of}
+use Rattle.tracker_http.specs.declared.told.Told.{Told}
+use Rattle.tracker_http.specs.declared.told.Told.TheVariants as told
 
 -- what is seen of a desk: its plan and receipts, and whether it carries out calls
 pub record Seen : Type 0 where

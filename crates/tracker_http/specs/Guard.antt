@@ -6,11 +6,11 @@ use Rattle.http_messages.specs.declared.statuses.Status.TheVariants as status
 use Rattle.desk_tables.specs.plan_model.specs.Plan.{Plan}
 use Rattle.plan_records.specs.Run.{plain}
 use Rattle.plan_records.specs.declared.Request.{Request}
-use Rattle.desk_replies.specs.request_json.specs.Requests.{ReadsAsRequest, ReadsAsReport}
-use Rattle.desk_replies.specs.request_json.specs.declared.NumberedRequest.{NumberedRequest}
+use Rattle.request_json.specs.Requests.{ReadsAsRequest, ReadsAsReport}
+use Rattle.request_json.specs.declared.NumberedRequest.{NumberedRequest}
 use Rattle.tracker_http.specs.Exchange.{Seen, TellsAnswer, TellsBadBody, Tells, report_call}
-use Rattle.desk_replies.specs.declared.told.Told.{Told}
-use Rattle.desk_replies.specs.declared.told.Told.TheVariants as told
+use Rattle.tracker_http.specs.declared.told.Told.{Told}
+use Rattle.tracker_http.specs.declared.told.Told.TheVariants as told
 
 -- where there is a guard of so many minutes: the moment is more than these after the clock of a loaded plan
 abbrev pub IsTooFar : Option ℕ → Plan → ℤ → Type 0

@@ -13,8 +13,8 @@ use Rattle.http_messages.specs.declared.asking.Asked.{Asked}
 use Rattle.http_messages.specs.declared.asking.Asked.TheVariants as asked
 use Rattle.tracker_http.specs.Exchange.{seen, StaysOpen}
 use Rattle.tracker_http.specs.Guard.{TellsWithin}
-use Rattle.desk_replies.specs.Told.{body_of, status_of}
-use Rattle.desk_replies.specs.declared.told.Told.{Told}
+use Rattle.tracker_http.specs.Told.{body_of, status_of}
+use Rattle.tracker_http.specs.declared.told.Told.{Told}
 
 -- the text of a plan's clock, once one is loaded
 abbrev pub clock_of : Plan → Option (List ℕ)

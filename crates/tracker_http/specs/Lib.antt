@@ -1,7 +1,8 @@
 pub use Rattle.desk_journal
-pub use Rattle.desk_replies
 pub use Rattle.desk_tables
 pub use Rattle.http_messages
+pub use Rattle.request_json
+pub mod Told
 pub mod Lists
 pub mod Exchange
 pub mod Continuing

@@ -11,10 +11,10 @@ use Rattle.desk_tables.specs.plan_model.specs.Contents.{Contents}
 use Rattle.desk_tables.specs.plan_model.specs.Plan.{Plan}
 use Rattle.plan_records.specs.Run.{Usable, usable, to_be_reopened}
 use Rattle.plan_records.specs.declared.Reply.TheVariants as reply
-use Rattle.desk_replies.specs.request_json.specs.declared.rows.OccurrenceRow.{OccurrenceRow}
-use Rattle.desk_replies.specs.request_json.specs.declared.rows.ReadyRow.{ReadyRow}
-use Rattle.desk_replies.specs.declared.told.Told.{Told}
-use Rattle.desk_replies.specs.declared.told.Told.TheVariants as told
+use Rattle.request_json.specs.declared.rows.OccurrenceRow.{OccurrenceRow}
+use Rattle.request_json.specs.declared.rows.ReadyRow.{ReadyRow}
+use Rattle.tracker_http.specs.declared.told.Told.{Told}
+use Rattle.tracker_http.specs.declared.told.Told.TheVariants as told
 
 -- what a ready list shows of an operation
 abbrev pub ready_row : OpView → ReadyRow

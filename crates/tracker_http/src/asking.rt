@@ -5,10 +5,11 @@ ghost use Rattle.tracker_http.specs.Exchange.{seen, Tells};
 ghost use Rattle.tracker_http.specs.Guard.{IsTooFar, TellsOperatorWithin, TellsReportWithin, TellsWithin};
 
 use super::lists::{tell_occurrences, tell_ready};
-use desk_replies::{Told, WireFault, read_operator, read_report};
+use super::told::Told;
 use desk_tables::{Desk, Plan};
 use http_messages::{Asked, Status};
 use plan_records::Request;
+use request_json::{WireFault, read_operator, read_report};
 use sqlite::Alter;
 use std::alloc::Global;
 

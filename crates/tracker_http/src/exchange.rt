@@ -6,10 +6,11 @@ ghost use Rattle.tracker_http.specs.Continuing.{Continues, ContinuesTelling};
 ghost use Rattle.tracker_http.specs.Exchange.{seen, IsTold, Ends};
 
 use super::asking::tell;
-use desk_replies::{Told, WireFault};
+use super::told::Told;
 use desk_tables::Desk;
 use http_messages::{ExchangeFault, read_exchange};
 use plan_basics::Watched;
+use request_json::WireFault;
 use sqlite::Alter;
 use std::alloc::Global;
 use std::io::{Read, Write};

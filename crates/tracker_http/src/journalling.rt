@@ -8,8 +8,8 @@ ghost use Rattle.tracker_http.specs.Continuing.{Continues};
 ghost use Rattle.tracker_http.specs.Journalled.{answer_lines, clock_of, request_lines, told_line, Takes};
 
 use super::asking::tell_within;
+use super::told::Told;
 use desk_journal::{Journal, JournalFault, answer_line, request_line};
-use desk_replies::Told;
 use desk_tables::{Desk, Plan};
 use http_messages::Asked;
 use sqlite::Alter;

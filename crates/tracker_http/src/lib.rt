@@ -8,7 +8,7 @@
 //! | `GET /ready/WS` | the ready list of a workstation, in ready order |
 //! | `GET /occurrences` | the occurrences of the plan, in key order |
 //!
-//! Bodies are JSON (`request_json`), heads HTTP (`http_messages`); what a reply tells is `Told` of `desk_replies`. What an
+//! Bodies are JSON (`request_json`), heads HTTP (`http_messages`); what a reply tells is [`Told`]. What an
 //! exchange is, from the bytes of a connection to those of the reply, is one relation (`specs/Exchange.antt`). At a desk
 //! that is served for good a request is asked within the clock's guard, and between two lines of a journal.
 #![tactic(auto)]
@@ -18,12 +18,14 @@ mod exchange;
 mod journalling;
 mod lists;
 mod replying;
+mod told;
 
 pub use asking::tell_within;
 pub use desk_journal::{Entry, Journal, JournalFault, read_entry};
-pub use desk_replies::{Told, WireFault, read_operator};
 pub use desk_tables::{Desk, Plan, open_again};
 pub use exchange::{send, serve_one};
 pub use http_messages::Asked;
 pub use journalling::{journalled, line_told};
 pub use replying::{ServeFault, asked_reply};
+pub use request_json::{WireFault, read_operator};
+pub use told::Told;

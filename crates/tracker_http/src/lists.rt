@@ -3,10 +3,11 @@ ghost use Rattle.std.specs.Prelude.{◌≡◌, map, IfOk, MatchResult};
 ghost use Rattle.desk_tables.specs.Desk.{usability};
 ghost use Rattle.tracker_http.specs.Lists.{ready_row, occurrence_row, TellsReady, TellsOccurrences, IsListRefusal, IsListed, TellsList};
 
-use desk_replies::{OccurrenceRow, ReadyRow, Told};
+use super::told::Told;
 use desk_tables::{Desk, Occs, Plan, Ready};
 use plan_basics::{Refusal, WsName};
 use plan_records::Reply;
+use request_json::{OccurrenceRow, ReadyRow};
 use sqlite::Alter;
 use std::alloc::{AllocError, Global};
 

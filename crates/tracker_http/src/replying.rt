@@ -2,8 +2,8 @@
 ghost use Rattle.std.specs.Prelude.{◌≡◌, ◌⊎◌, ◌++◌, IfErr, IfOk};
 ghost use Rattle.std.specs.Io.KnownBytes.{Appends};
 ghost use Rattle.desk_journal.specs.Lines.{entries_of};
-ghost use Rattle.desk_replies.specs.Told.{reply_of};
-ghost use Rattle.desk_replies.specs.declared.told.Told.{Told as ToldValue};
+ghost use Rattle.tracker_http.specs.Told.{reply_of};
+ghost use Rattle.tracker_http.specs.declared.told.Told.{Told as ToldValue};
 ghost use Rattle.tracker_http.specs.Continuing.{Continues};
 ghost use Rattle.tracker_http.specs.Journalled.{answer_lines, request_lines, AskedBreaksOff, Takes};
 

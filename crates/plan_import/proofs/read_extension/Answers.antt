@@ -3,8 +3,8 @@ use Rattle.plan_items.specs.Items.{IsItem}
 use Rattle.plan_import.proofs.Saying.{extension_by_items, no_extension_said}
 use Rattle.plan_import.proofs.read_extension.Goals as goal
 
-pub of_items-requires : goal.of_items-requires
-of_items-requires g c = subst (All IsItem) (sym c.deref.ensures.value) (rw c.in-Some.is at c.in_ok-items.ensures.legal)
+pub extension_of_items-requires : goal.extension_of_items-requires
+extension_of_items-requires g c = subst (All IsItem) (sym c.deref.ensures.value) (rw c.in-Some.is at c.in_ok-items.ensures.legal)
 
 pub returns-in_default-clause-extension : goal.returns-in_default-clause-extension
 returns-in_default-clause-extension g c = no_extension_said _ (rw c.in_default.is at c.in_ok-items.ensures.said)

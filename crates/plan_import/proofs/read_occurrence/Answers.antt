@@ -3,8 +3,8 @@ use Rattle.plan_items.specs.Items.{IsItem}
 use Rattle.plan_import.proofs.Saying.{addition_by_items, no_addition_said}
 use Rattle.plan_import.proofs.read_occurrence.Goals as goal
 
-pub of_items-requires : goal.of_items-requires
-of_items-requires g c = subst (All IsItem) (sym c.deref.ensures.value) (rw c.in-Some.is at c.in_ok-items.ensures.legal)
+pub addition_of_items-requires : goal.addition_of_items-requires
+addition_of_items-requires g c = subst (All IsItem) (sym c.deref.ensures.value) (rw c.in-Some.is at c.in_ok-items.ensures.legal)
 
 pub returns-in_default-clause-addition : goal.returns-in_default-clause-addition
 returns-in_default-clause-addition g c = no_addition_said _ (rw c.in_default.is at c.in_ok-items.ensures.said)

@@ -3,8 +3,8 @@ use Rattle.plan_items.specs.Items.{IsItem}
 use Rattle.plan_import.proofs.Saying.{no_plan_said, plan_by_items}
 use Rattle.plan_import.proofs.read_plan.Goals as goal
 
-pub of_items-requires : goal.of_items-requires
-of_items-requires g c = subst (All IsItem) (sym c.deref.ensures.value) (rw c.in-Some.is at c.in_ok-items.ensures.legal)
+pub draft_of_items-requires : goal.draft_of_items-requires
+draft_of_items-requires g c = subst (All IsItem) (sym c.deref.ensures.value) (rw c.in-Some.is at c.in_ok-items.ensures.legal)
 
 pub returns-in_default-clause-plan : goal.returns-in_default-clause-plan
 returns-in_default-clause-plan g c = no_plan_said _ (rw c.in_default.is at c.in_ok-items.ensures.said)

@@ -1,5 +1,5 @@
 use Rattle.std.proofs.Common.{sym, subst}
-use Rattle.plan_model.specs.Valid.{IsSound}
+use Rattle.plan_records.specs.plan_model.specs.Valid.{IsSound}
 use Rattle.plan_laws.proofs.Leaving.{left_is_sound, one_left}
 use Rattle.plan_laws.proofs.Waiting.{some_left}
 use Rattle.plan_laws.proofs.each_leaves_one_sound_plan.Goals as goal

@@ -7,7 +7,8 @@ ghost use Rattle.plan_records.specs.Rows.{AreRows};
 use super::items::{are_in_range, items_of};
 use super::reports::put_reports;
 use super::said::said_by;
-use plan_drafts::{PlanContents, contents_of_items};
+use plan_denotation::contents_of_items;
+use plan_drafts::PlanContents;
 use plan_records::PlanRow;
 use std::alloc::{AllocError, Global};
 

@@ -1,11 +1,13 @@
 // What rows say as items of a text, and which items are in range.
-ghost use Rattle.std.specs.Prelude.{◌≡◌, ◌↔◌, All, IsTrue, IfOk};
+ghost use Rattle.std.specs.Prelude.{◌≡◌, ◌↔◌, All, IsTrue, IfOk, Some};
 ghost use Rattle.std.specs.List.{filter_map};
 ghost use Rattle.std.specs.List.Sorted.{IsStrictlySortedBy};
 ghost use Rattle.std.specs.Map.{keys_of};
 ghost use Rattle.plan_basics.specs.Keys.{name_cmp, IsOccurrenceKey, IsOperationKey};
 ghost use Rattle.plan_drafts.specs.PlanItems.{need_cmp};
 ghost use Rattle.plan_items.specs.Items.{IsItem, IsOperationItem};
+ghost use Rattle.plan_items.specs.declared.Item.TheVariants as item;
+ghost use Rattle.plan_records.specs.declared.PlanRow.TheVariants as plan_row;
 ghost use Rattle.special_resources.specs.Holders.{IsAmount};
 ghost use Rattle.plan_opening.specs.Restoring.{as_item, operation_item, AreSaid};
 
@@ -14,7 +16,7 @@ use plan_basics::limits::{
     HIGHEST_PRIORITY, LEAST_NUMBER, LONGEST_DURATION, LOWEST_PRIORITY, MOST_FIXED, MOST_QUANTITY,
     SHORTEST_DURATION,
 };
-use plan_basics::{OccKey, OpKey};
+use plan_basics::{Moment, OccKey, OpKey, ResName};
 use plan_items::{Item, OperationItem};
 use plan_records::{OperationRow, PlanRow};
 use special_resources::{Mode, Need};
@@ -35,6 +37,45 @@ fn operation_of(row: &OperationRow) -> OperationItem
     }
 }
 
+// What the row of a special resource says, by these quantities.
+fn resource_of(said: &Said, name: ResName, available: bool) -> Item
+    requires { IsStrictlySortedBy name_cmp (keys_of said.now.quantities.items) }
+    ensures { Some result ≡ as_item said.now (plan_row.Resource name available) }
+{
+    let quantity = quantity_by(&said.quantities, &name);
+    Item::Resource {
+        name,
+        available,
+        quantity,
+    }
+}
+
+// What the row of an occurrence says.
+fn occurrence_of(key: OccKey, priority: u8, deadline: Moment) -> Item
+    ensures { result ≡ item.Occurrence key priority deadline }
+{
+    Item::Occurrence {
+        key,
+        priority,
+        deadline,
+    }
+}
+
+// What the row of a need says, by these amounts.
+fn need_of(said: &Said, operation: OpKey, name: ResName, mode: Mode, keep: bool) -> Item
+    requires { IsStrictlySortedBy need_cmp (keys_of said.now.amounts.items) }
+    ensures { Some result ≡ as_item said.now (plan_row.Need operation name mode keep) }
+{
+    let amount = amount_by(&said.amounts, &operation, &name, mode);
+    let need = Need {
+        name,
+        mode,
+        amount,
+        keep,
+    };
+    Item::Need { operation, need }
+}
+
 // What a row says, by these quantities and amounts; `None` for that of the plan itself, of a quantity or of an amount.
 fn item_of(said: &Said, row: &PlanRow) -> Option<Item>
     requires quantities { IsStrictlySortedBy name_cmp (keys_of said.now.quantities.items) }
@@ -51,24 +92,13 @@ fn item_of(said: &Said, row: &PlanRow) -> Option<Item>
             workstation: ws,
             interval,
         }),
-        PlanRow::Resource { name, available } => {
-            let quantity = quantity_by(&said.quantities, &name);
-            Some(Item::Resource {
-                name,
-                available,
-                quantity,
-            })
-        }
+        PlanRow::Resource { name, available } => Some(resource_of(said, name, available)),
         PlanRow::Occurrence {
             occurrence,
             priority,
             deadline,
             ..
-        } => Some(Item::Occurrence {
-            key: occurrence,
-            priority,
-            deadline,
-        }),
+        } => Some(occurrence_of(occurrence, priority, deadline)),
         PlanRow::Operation(ref row) => Some(Item::Operation(operation_of(row))),
         PlanRow::Dependency {
             predecessor,
@@ -82,18 +112,7 @@ fn item_of(said: &Said, row: &PlanRow) -> Option<Item>
             resource,
             mode,
             keep,
-        } => {
-            let amount = amount_by(&said.amounts, &op, &resource, mode);
-            Some(Item::Need {
-                operation: op,
-                need: Need {
-                    name: resource,
-                    mode,
-                    amount,
-                    keep,
-                },
-            })
-        }
+        } => Some(need_of(said, op, resource, mode, keep)),
     }
 }
 

@@ -10,7 +10,8 @@ ghost use Rattle.plan_opening.specs.Restoring.{amount_by, as_amount, as_quantity
 
 use plan_basics::limits::MOST_QUANTITY;
 use plan_basics::{OpKey, ResName};
-use plan_drafts::{in_key_order, row_place};
+use plan_denotation::in_key_order;
+use plan_drafts::row_place;
 use plan_records::PlanRow;
 use special_resources::Mode;
 use std::alloc::{AllocError, Global};

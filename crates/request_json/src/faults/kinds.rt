@@ -11,6 +11,10 @@ use crate::intervals::read_intervals;
 use crate::members::{
     array_at, code_at, minute_at, occurrence_at, operation_at, resource_at, text_at, workstation_at,
 };
+use crate::verbs::{
+    ADD, AVAILABLE, COMPLETE, DELETE, DEPEND, ENDED, ERROR, EXTEND, HOLD, INTERRUPTED, INTERVALS,
+    LOAD, NOP, RELEASE, RERUN, STARTED, TICK, UNKNOWN, UNNOP,
+};
 use serde_json::Value;
 use std::alloc::{AllocError, Global};
 
@@ -107,16 +111,7 @@ fn is_on_operation(verb: &str) -> bool
 {
     matches!(
         verb,
-        "started"
-            | "ended"
-            | "interrupted"
-            | "unknown"
-            | "hold"
-            | "release"
-            | "nop"
-            | "unnop"
-            | "rerun"
-            | "complete"
+        STARTED | ENDED | INTERRUPTED | UNKNOWN | HOLD | RELEASE | NOP | UNNOP | RERUN | COMPLETE
     )
 }
 
@@ -124,7 +119,7 @@ fn is_on_operation(verb: &str) -> bool
 fn brings_records(verb: &str) -> bool
     ensures { IsTrue result ↔ IsRecordsVerb verb.now }
 {
-    matches!(verb, "load" | "add" | "extend")
+    matches!(verb, LOAD | ADD | EXTEND)
 }
 
 // The kind of another `do`.
@@ -134,12 +129,12 @@ fn other_kind(verb: &str) -> Option<RequestKind>
     ensures { IsReading (λ k. IsVerbOf k verb.now) result }
 {
     match verb {
-        "tick" => Some(RequestKind::Tick),
-        "error" => Some(RequestKind::Error),
-        "delete" => Some(RequestKind::Delete),
-        "depend" => Some(RequestKind::Depend),
-        "available" => Some(RequestKind::Available),
-        "intervals" => Some(RequestKind::Intervals),
+        TICK => Some(RequestKind::Tick),
+        ERROR => Some(RequestKind::Error),
+        DELETE => Some(RequestKind::Delete),
+        DEPEND => Some(RequestKind::Depend),
+        AVAILABLE => Some(RequestKind::Available),
+        INTERVALS => Some(RequestKind::Intervals),
         _ => None,
     }
 }

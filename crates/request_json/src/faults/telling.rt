@@ -6,28 +6,28 @@ ghost use Rattle.request_json.specs.RequestFaults.{place_text};
 use super::finding::RequestFault;
 use super::kinds::{MemberName, RequestKind, first_member, kind_at, member_name, second_member};
 use crate::read_value;
+use crate::verbs::all_verbs;
+use plan_basics::{ErrCode, ResName, WsName};
 use serde_json::Value;
 use std::alloc::{AllocError, Global};
 
 // What a member may be.
-fn may_be(name: MemberName) -> &'static str {
+fn may_be(alloc: Global, name: MemberName) -> Result<String, AllocError> {
     match name {
-        MemberName::At => "a date and time YYYY-MM-DDTHH:MM",
-        MemberName::Do => {
-            "tick, started, ended, error, interrupted, unknown, hold, release, nop, unnop, rerun, complete, load, add, extend, delete, depend, available or intervals"
-        }
-        MemberName::Op | MemberName::From | MemberName::To => {
+        MemberName::At => format!(in alloc; "a date and time YYYY-MM-DDTHH:MM"),
+        MemberName::Do => all_verbs(alloc),
+        MemberName::Op | MemberName::From | MemberName::To => format!(in alloc;
             "an operation's key APPLICATION/YYYY-MM-DDTHH:MM/NNN: the number has three digits: 010"
-        }
-        MemberName::Code => "an error code of 1 to 4 characters of A-Z, 0-9, @, # and $",
-        MemberName::Occ => "an occurrence's key APPLICATION/YYYY-MM-DDTHH:MM",
-        MemberName::Records => "a text",
-        MemberName::Resource => "a name of 1 to 44 characters of A-Z, 0-9, @, #, $, . and -",
-        MemberName::Value => "true or false",
-        MemberName::Ws => "a name of 1 to 4 characters of A-Z, 0-9, @, # and $",
-        MemberName::Intervals => {
+        ),
+        MemberName::Code => format!(in alloc; "an error code of {}", ErrCode::FORM),
+        MemberName::Occ => format!(in alloc; "an occurrence's key APPLICATION/YYYY-MM-DDTHH:MM"),
+        MemberName::Records => format!(in alloc; "a text"),
+        MemberName::Resource => format!(in alloc; "a name of {}", ResName::FORM),
+        MemberName::Value => format!(in alloc; "true or false"),
+        MemberName::Ws => format!(in alloc; "a name of {}", WsName::FORM),
+        MemberName::Intervals => format!(in alloc;
             "an array of arrays of a first minute, an end after it, servers, R1 and R2: [[\"2024-03-01T22:00\",\"2024-03-02T06:00\",1,0,0]]"
-        }
+        ),
     }
 }
 
@@ -71,11 +71,11 @@ fn wrong_text(alloc: Global, fault: RequestFault, body: &[u8]) -> Result<String,
         RequestFault::NoJson => format!(in alloc; "no JSON text"),
         RequestFault::NoObject => format!(in alloc; "no object: it must be an object of members"),
         RequestFault::Missing(name) => {
-            let form = may_be(name);
+            let form = may_be(alloc, name)?;
             format!(in alloc; "missing: must be {form}")
         }
         RequestFault::Wrong(name) => {
-            let form = may_be(name);
+            let form = may_be(alloc, name)?;
             format!(in alloc; "must be {form}")
         }
         RequestFault::Others => match read_value(alloc, body)? {

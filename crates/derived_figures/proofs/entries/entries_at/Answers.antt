@@ -16,7 +16,7 @@ loop-place-init c = record {
   contents = refl;
   fewest = omega arith;
   most = omega arith;
-  noted = none_noted c.args.shown.now.contents c.args.places.now c.args.noted.now.items c.requires.none_noted;
+  noted = none_noted c.args.records.now.contents c.args.places.now c.args.noted.now.items c.requires.none_noted;
   space = c.requires.space;
   within = omega arith;
 }
@@ -26,7 +26,7 @@ entry_of-entry-requires-clause-within c =
     let places = c.args.places.now in
     let p = get_or places c.loop-place.place-index 0 in
     subst (λ (Q : Contents). p < length (entries Q.operations)) (sym c.loop-place.invariant.contents)
-    (All-contains (λ i. i < length (entries c.args.shown.now.contents.operations)) places p c.requires.within (Contains-get_or places c.loop-place.place-index 0 c.loop-place-test.true))
+    (All-contains (λ i. i < length (entries c.args.records.now.contents.operations)) places p c.requires.within (Contains-get_or places c.loop-place.place-index 0 c.loop-place-test.true))
 
 pub entry_of-entry-requires-clause-latest : goal.entry_of-entry-requires-clause-latest
 entry_of-entry-requires-clause-latest c = subst (λ (Q : Contents). AreLatestStarts Q c.args.latest.now.starts) (sym c.loop-place.invariant.contents) c.requires.latest
@@ -36,7 +36,7 @@ entry_of-entry-requires-clause-known c = subst (λ (Q : Contents). AreEntriesAt 
 
 pub loop-place-preserved : goal.loop-place-preserved
 loop-place-preserved c =
-    let Q = c.args.shown.now.contents in
+    let Q = c.args.records.now.contents in
     let places = c.args.places.now in
     let known = c.args.known_at.now in
     let n = c.loop-place.place-index in
@@ -57,7 +57,7 @@ loop-place-preserved c =
 
 pub returns-clause-noted : goal.returns-clause-noted
 returns-clause-noted c =
-    all_noted c.args.shown.now.contents c.args.places.now c.loop-place.place-index c.loop-place.noted.items c.loop-place.invariant.noted
+    all_noted c.args.records.now.contents c.args.places.now c.loop-place.place-index c.loop-place.noted.items c.loop-place.invariant.noted
     (omega (arith, c.loop-place.invariant.within, c.loop-place-test.false))
 
 pub returns-clause-most : goal.returns-clause-most

@@ -19,7 +19,7 @@ use Rattle.derived_figures.proofs.status_changes.update_statuses.Goals.{After-lo
 
 pub loop-place-init : goal.loop-place-init
 loop-place-init c =
-    let Q = c.args.shown.now.contents in
+    let Q = c.args.records.now.contents in
     let b = c.requires.before in
     record {
       contents = refl;
@@ -38,11 +38,11 @@ see-requires c =
     let places = c.args.by.places.now in
     let p = get_or places c.loop-place.place-index 0 in
     subst (λ (Q : Contents). p < length (entries Q.operations)) (sym c.loop-place.invariant.contents)
-    (All-contains (λ i. i < length (entries c.args.shown.now.contents.operations)) places p c.requires.within (Contains-get_or places c.loop-place.place-index 0 c.loop-place-test.true))
+    (All-contains (λ i. i < length (entries c.args.records.now.contents.operations)) places p c.requires.within (Contains-get_or places c.loop-place.place-index 0 c.loop-place-test.true))
 
 module _ (c : After-see) where
   -- what stands beside what is seen is the plan
-  same : c.see.result.uncounted.contents.now ≡ c.args.shown.now.contents
+  same : c.see.result.uncounted.contents.now ≡ c.args.records.now.contents
   same = c.see.ensures.uncounted ∙ c.loop-place.invariant.contents
 
   row_beside : slice_get (entries c.see.result.uncounted.contents.now.operations) (get_or c.args.by.places.now c.loop-place.place-index 0) ≡ Some (c.see.result.key.now, c.see.result.operation.now)
@@ -74,7 +74,7 @@ set_status_at-requires-clause-in_line c =
 
 pub loop-place-preserved : goal.loop-place-preserved
 loop-place-preserved c =
-    let Q = c.args.shown.now.contents in
+    let Q = c.args.records.now.contents in
     let s = same (goal.at.loop-place-preserved c).After-see in
     let places = c.args.by.places.now in
     let n = c.loop-place.place-index in
@@ -98,9 +98,9 @@ loop-place-preserved c =
     }
 
 -- after the last place the statuses are right
-all_right : (c : After-loop-place) → length c.args.by.places.now ≤ c.loop-place.place-index → AreStatuses c.args.shown.now.contents c.loop-place.statuses
+all_right : (c : After-loop-place) → length c.args.by.places.now ≤ c.loop-place.place-index → AreStatuses c.args.records.now.contents c.loop-place.statuses
 all_right c past =
-    let Q = c.args.shown.now.contents in
+    let Q = c.args.records.now.contents in
     let b = c.requires.before in
     all_restated Q c.args.by.places.now c.args.statuses.now c.loop-place.statuses (right_beside b.0 Q b.1 b.2 c.args.by.places.now c.args.statuses.now b.3.statuses b.4)
     (subst (λ done. AreRestatedAt Q done c.args.statuses.now c.loop-place.statuses) (take_all c.loop-place.place-index c.args.by.places.now past) c.loop-place.invariant.restated)
@@ -112,14 +112,14 @@ returns-clause-statuses c = all_right ((goal.at.returns-clause-statuses c).After
 pub returns-clause-tallies : goal.returns-clause-tallies
 returns-clause-tallies c =
     let right = all_right ((goal.at.returns-clause-tallies c).After-loop-place) c.loop-place-test.false in
-    tallies_are c.args.shown.now.contents c.uncounted.ensures.sound.valid.acyclic c.loop-place.statuses right c.loop-place.tallies c.loop-place.invariant.in_line.tallies
+    tallies_are c.args.records.now.contents c.uncounted.ensures.sound.valid.acyclic c.loop-place.statuses right c.loop-place.tallies c.loop-place.invariant.in_line.tallies
 
 pub returns-clause-ready : goal.returns-clause-ready
 returns-clause-ready c =
     let right = all_right ((goal.at.returns-clause-ready c).After-loop-place) c.loop-place-test.false in
-    entries_are c.args.shown.now.contents c.uncounted.ensures.sound.valid.acyclic c.loop-place.statuses right c.loop-place.ready.entries c.loop-place.invariant.in_line.ready
+    entries_are c.args.records.now.contents c.uncounted.ensures.sound.valid.acyclic c.loop-place.statuses right c.loop-place.ready.entries c.loop-place.invariant.in_line.ready
 
 pub returns-clause-noted : goal.returns-clause-noted
 returns-clause-noted c =
-    all_noted c.args.shown.now.contents c.args.by.places.now c.loop-place.place-index c.loop-place.noted.items c.loop-place.invariant.noted
+    all_noted c.args.records.now.contents c.args.by.places.now c.loop-place.place-index c.loop-place.noted.items c.loop-place.invariant.noted
     (omega (arith, c.loop-place.invariant.within, c.loop-place-test.false))

@@ -14,7 +14,7 @@ loop-index-init c = record {
   contents = refl;
   fewest = omega arith;
   most = omega arith;
-  between = none_gone_through c.args.shown.now.contents c.args.places.now c.args.marks.now c.args.given.now c.args.holdings.now.held c.requires.before;
+  between = none_gone_through c.args.records.now.contents c.args.places.now c.args.marks.now c.args.given.now c.args.holdings.now.held c.requires.before;
 }
 
 pub retake_at-requires-clause-within : goal.retake_at-requires-clause-within
@@ -27,12 +27,12 @@ pub retake_at-requires-clause-stations : goal.retake_at-requires-clause-stations
 retake_at-requires-clause-stations c =
     let inv = c.loop-index.invariant in
     let between = inv.between in
-    let as_many = as_many_stations between.plan c.args.shown.now.contents (remarked_by_move between.plan c.args.shown.now.contents c.args.places.now between.moved) in
+    let as_many = as_many_stations between.plan c.args.records.now.contents (remarked_by_move between.plan c.args.records.now.contents c.args.places.now between.moved) in
     subst (λ (Q : Contents). length c.loop-index.given ≡ length (entries Q.workstations)) (sym inv.contents) (between.retaken.are_given.size ∙ as_many)
 
 pub loop-index-preserved : goal.loop-index-preserved
 loop-index-preserved c =
-    let Q = c.args.shown.now.contents in
+    let Q = c.args.records.now.contents in
     let places = c.args.places.now in
     let marks = c.args.marks.now in
     let k = c.loop-index.index in
@@ -58,10 +58,10 @@ loop-index-preserved c =
 
 pub returns-clause-given : goal.returns-clause-given
 returns-clause-given c =
-    given_at_last c.args.shown.now.contents c.args.places.now c.args.marks.now c.loop-index.index c.loop-index.given c.loop-index.holdings.held c.loop-index.invariant.between
+    given_at_last c.args.records.now.contents c.args.places.now c.args.marks.now c.loop-index.index c.loop-index.given c.loop-index.holdings.held c.loop-index.invariant.between
     (omega (arith, c.loop-index-test.false))
 
 pub returns-clause-held : goal.returns-clause-held
 returns-clause-held c =
-    held_at_last c.args.shown.now.contents c.args.places.now c.args.marks.now c.loop-index.index c.loop-index.given c.loop-index.holdings.held c.loop-index.invariant.between
+    held_at_last c.args.records.now.contents c.args.places.now c.args.marks.now c.loop-index.index c.loop-index.given c.loop-index.holdings.held c.loop-index.invariant.between
     (omega (arith, c.loop-index-test.false))

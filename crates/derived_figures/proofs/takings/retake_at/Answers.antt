@@ -20,10 +20,10 @@ row_seen c = (c.see.result.key.now, c.see.result.operation.now)
 found_there : (c : After-see) → (o : OpKey) × (get c.see.result.uncounted.contents.now.operations o ≡ Some (row_seen c).1)
 found_there c =
     let row = row_seen c in
-    (row.0, subst (λ (Q : Contents). get Q.operations row.0 ≡ Some row.1) (sym c.see.ensures.uncounted) (row_found c.args.shown.now.contents c.args.place row.0 row.1 c.see.ensures.row))
+    (row.0, subst (λ (Q : Contents). get Q.operations row.0 ≡ Some row.1) (sym c.see.ensures.uncounted) (row_found c.args.records.now.contents c.args.place row.0 row.1 c.see.ensures.row))
 
--- whether starts are known there is told of the plan that is shown
-known_there : (c : After-see) {b : _} → b ≡ takes (attribute_at c.see.result.uncounted.contents.now (row_seen c).1.workstation) → b ≡ takes (attribute_at c.args.shown.now.contents (row_seen c).1.workstation)
+-- whether starts are known there is told of the plan of these records
+known_there : (c : After-see) {b : _} → b ≡ takes (attribute_at c.see.result.uncounted.contents.now (row_seen c).1.workstation) → b ≡ takes (attribute_at c.args.records.now.contents (row_seen c).1.workstation)
 known_there c {b} = subst (λ (Q : Contents). b ≡ takes (attribute_at Q (row_seen c).1.workstation)) c.see.ensures.uncounted
 
 pub starts_are_known-requires : goal.starts_are_known-requires
@@ -35,19 +35,19 @@ workstation_place_near-station-requires c = found_there (goal.at.workstation_pla
 pub returns-then-not-starts_are_known-clause-given : goal.returns-then-not-starts_are_known-clause-given
 returns-then-not-starts_are_known-clause-given c P from =
     let p = (goal.at.returns-then-not-starts_are_known-clause-given c).After-see in
-    given_still P c.args.shown.now.contents c.args.place c.args.marking.now c.args.given.now c.args.holdings.now.held from (row_seen p) c.see.ensures.row
+    given_still P c.args.records.now.contents c.args.place c.args.marking.now c.args.given.now c.args.holdings.now.held from (row_seen p) c.see.ensures.row
     (sym (known_there p c.starts_are_known.ensures) ∙ c.if-not-starts_are_known.true)
 
 pub returns-then-not-starts_are_known-clause-held : goal.returns-then-not-starts_are_known-clause-held
 returns-then-not-starts_are_known-clause-held c P from =
     let p = (goal.at.returns-then-not-starts_are_known-clause-held c).After-see in
-    held_still P c.args.shown.now.contents c.args.place c.args.marking.now c.args.given.now c.args.holdings.now.held from (row_seen p) c.see.ensures.row
+    held_still P c.args.records.now.contents c.args.place c.args.marking.now c.args.given.now c.args.holdings.now.held from (row_seen p) c.see.ensures.row
     (sym (known_there p c.starts_are_known.ensures) ∙ c.if-not-starts_are_known.true)
 
 pub returns-clause-given : goal.returns-clause-given
 returns-clause-given c =
     let p = (goal.at.returns-clause-given c).After-see in
-    let Q = c.args.shown.now.contents in
+    let Q = c.args.records.now.contents in
     let known = sym (known_there p c.starts_are_known.ensures) ∙ c.if-not-starts_are_known.false in
     let place = c.workstation_place_near-station.result in
     let station = subst (λ (R : Contents). (value : Workstation) × (slice_get (entries R.workstations) place ≡ Some ((row_seen p).1.workstation, value))) c.see.ensures.uncounted c.workstation_place_near-station.ensures.at in
@@ -62,5 +62,5 @@ returns-clause-held c =
     let p = (goal.at.returns-clause-held c).After-see in
     let known = sym (known_there p c.starts_are_known.ensures) ∙ c.if-not-starts_are_known.false in
     on_ok_weaker c.retake_needs.result
-    (λ retaken P from. held_anew_there P c.args.shown.now.contents c.args.place c.args.marking.now c.args.given.now c.args.holdings.now.held from (row_seen p) c.see.ensures.row known c.retake_needs.new.holdings.held retaken)
+    (λ retaken P from. held_anew_there P c.args.records.now.contents c.args.place c.args.marking.now c.args.given.now c.args.holdings.now.held from (row_seen p) c.see.ensures.row known c.retake_needs.new.holdings.held retaken)
     c.retake_needs.ensures.retaken

@@ -4,8 +4,8 @@ use Rattle.http_messages.specs.declared.wanting.Wanted.TheVariants as wanted
 use Rattle.plan_basics.specs.Watched.{inner_of}
 use Rattle.desk_journal.specs.Lines.{entries_of}
 use Rattle.desk_serving.specs.Served.{IsWanted}
-use Rattle.tracker_http.specs.desk_replies.specs.Told.{reply_of}
-use Rattle.tracker_http.specs.desk_replies.specs.declared.told.Told.TheVariants as told
+use Rattle.tracker_http.specs.Told.{reply_of}
+use Rattle.tracker_http.specs.declared.told.Told.TheVariants as told
 use Rattle.desk_serving.proofs.Ending.{breaks_asked, serves_asked, serves_look, serves_test}
 use Rattle.desk_serving.proofs.served.wanted_reply.Goals as goal
 

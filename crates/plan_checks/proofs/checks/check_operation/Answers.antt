@@ -14,7 +14,7 @@ use Rattle.plan_checks.proofs.checks.check_operation.Goals as goal
 use Rattle.plan_checks.proofs.checks.check_operation.Goals.{In_ok-place}
 
 -- the row at the index is that of the key
-found : (c : In_ok-place) → HasRow c.args.shown.now.contents c.in_ok-place.place c.args.key.now
+found : (c : In_ok-place) → HasRow c.args.records.now.contents c.in_ok-place.place c.args.key.now
 found c =
     subst (λ (Q : Contents). HasRow Q c.in_ok-place.place c.args.key.now) c.uncounted.ensures.contents
     (found_in c.operation_place.result (λ i. HasRow c.uncounted.result.contents.now i c.args.key.now) c.in_ok-place.place c.in_ok-place.ensures.ok_part c.operation_place.ensures.found)
@@ -22,7 +22,7 @@ found c =
 pub see-seen-requires : goal.see-seen-requires
 see-seen-requires c =
     let row = found (goal.at.see-seen-requires c).In_ok-place in
-    slice_get_within (entries c.args.shown.now.contents.operations) c.in_ok-place.place (c.args.key.now, row.0) row.1
+    slice_get_within (entries c.args.records.now.contents.operations) c.in_ok-place.place (c.args.key.now, row.0) row.1
 
 pub of-outline-requires : goal.of-outline-requires
 of-outline-requires c = subst (λ (Q : Contents). AreDerivedOf Q c.args.derived) (sym c.see-seen.ensures.uncounted) c.requires.derived

@@ -17,17 +17,17 @@ kept_at P Q s same kept = subst (λ (R : Contents). ArePartsOf R s) same kept
 
 pub of-plan-requires-clause-graph : goal.of-plan-requires-clause-graph
 of-plan-requires-clause-graph c =
-    let by = subst (λ r. IfOk r (IsRebuiltBy c.requires.0 c.requires.1 c.args.at c.args.rebuild.shown.contents)) c.in_ok-rebuilt_parts.was c.requires.2.rebuilt in
+    let by = subst (λ r. IfOk r (IsRebuiltBy c.requires.0 c.requires.1 c.args.at c.args.rebuild.records.contents)) c.in_ok-rebuilt_parts.was c.requires.2.rebuilt in
     (kept_at _ _ _ (sym c.into_contents-contents.ensures.contents) by.kept).graph
 
 pub of-plan-requires-clause-latest : goal.of-plan-requires-clause-latest
 of-plan-requires-clause-latest c =
-    let by = subst (λ r. IfOk r (IsRebuiltBy c.requires.0 c.requires.1 c.args.at c.args.rebuild.shown.contents)) c.in_ok-rebuilt_parts.was c.requires.2.rebuilt in
+    let by = subst (λ r. IfOk r (IsRebuiltBy c.requires.0 c.requires.1 c.args.at c.args.rebuild.records.contents)) c.in_ok-rebuilt_parts.was c.requires.2.rebuilt in
     (kept_at _ _ _ (sym c.into_contents-contents.ensures.contents) by.kept).latest
 
 pub of-plan-requires-clause-figures : goal.of-plan-requires-clause-figures
 of-plan-requires-clause-figures c =
-    let by = subst (λ r. IfOk r (IsRebuiltBy c.requires.0 c.requires.1 c.args.at c.args.rebuild.shown.contents)) c.in_ok-rebuilt_parts.was c.requires.2.rebuilt in
+    let by = subst (λ r. IfOk r (IsRebuiltBy c.requires.0 c.requires.1 c.args.at c.args.rebuild.records.contents)) c.in_ok-rebuilt_parts.was c.requires.2.rebuilt in
     (kept_at _ _ _ (sym c.into_contents-contents.ensures.contents) by.kept).figures
 
 pub returns-in_err-rebuilt_parts-clause-refused : goal.returns-in_err-rebuilt_parts-clause-refused

@@ -9,7 +9,7 @@ use Rattle.plan_core.proofs.views.occ_view.Goals as goal
 
 pub returns : goal.returns
 returns c =
-    let s = c.args.shown in
+    let s = c.args.source in
     let i = c.args.place in
     let rows = c.occurrences.result.now in
     let within : i < length rows = subst (λ xs. i < length xs) (sym c.occurrences.ensures.rows) c.requires.within in
@@ -19,5 +19,5 @@ returns c =
     let other = slice_get-get_or rows i c.index-occurrences-place-2.result within in
     let row : slice_get (entries s.contents.now.occurrences) i ≡ Some (x.0, y.1) = subst (λ xs. slice_get xs i ≡ Some (x.0, y.1)) c.occurrences.ensures.rows (one ∙ ap (λ (z : OccKey × Occurrence). Some (x.0, z.1)) (same_Some x y (sym one ∙ other))) in
     let none : Counts = record { all = 0; deleted = 0; error = 0; undecided = 0; complete = 0; started = 0 } in
-    let numbers = slice_get-get_or s.tallies.now i none (let size = c.requires.shown.tallies.size in let lt = c.requires.within in omega (arith, lt, size)) in
-    occ_view_at s c.requires.shown i x.0 y.1 (slice_index_or s.tallies.now i none) c.occurrence_status_with.result row numbers c.occurrence_status_with.ensures
+    let numbers = slice_get-get_or s.tallies.now i none (let size = c.requires.source.tallies.size in let lt = c.requires.within in omega (arith, lt, size)) in
+    occ_view_at s c.requires.source i x.0 y.1 (slice_index_or s.tallies.now i none) c.occurrence_status_with.result row numbers c.occurrence_status_with.ensures

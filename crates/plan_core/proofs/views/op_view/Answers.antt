@@ -13,7 +13,7 @@ use Rattle.plan_core.proofs.views.op_view.Goals as goal
 use Rattle.plan_core.proofs.views.op_view.Goals.{After-operations}
 
 -- the row at the index, whatever is read where there is none
-row : (c : After-operations) (d : OpKey × Operation) → slice_get (entries c.args.shown.contents.now.operations) c.args.place ≡ Some (slice_index_or c.operations.result.now c.args.place d)
+row : (c : After-operations) (d : OpKey × Operation) → slice_get (entries c.args.source.contents.now.operations) c.args.place ≡ Some (slice_index_or c.operations.result.now c.args.place d)
 row c d =
     let rows = c.operations.ensures.rows in
     let within : c.args.place < length c.operations.result.now = subst (λ xs. c.args.place < length xs) (sym rows) c.requires.within in
@@ -21,16 +21,16 @@ row c d =
 
 pub unwrap-occurrence-requires : goal.unwrap-occurrence-requires
 unwrap-occurrence-requires c =
-    let P = c.args.shown.contents.now in
+    let P = c.args.source.contents.now in
     let at = (goal.at.unwrap-occurrence-requires c).After-operations in
     let x = slice_index_or c.operations.result.now c.args.place c.index-operations-place.result in
-    let is = row_in_plan c.args.shown c.requires.shown c.args.place x.0 x.1 (row at c.index-operations-place.result) in
-    there c.occurrence.result (get P.occurrences x.0.occurrence) c.occurrence.ensures.absent (its_occurrence P c.requires.shown.sound.valid x.0 x.1 is)
+    let is = row_in_plan c.args.source c.requires.source c.args.place x.0 x.1 (row at c.index-operations-place.result) in
+    there c.occurrence.result (get P.occurrences x.0.occurrence) c.occurrence.ensures.absent (its_occurrence P c.requires.source.sound.valid x.0 x.1 is)
 
 pub returns : goal.returns
 returns c =
-    let s = c.args.shown in
-    let shown = c.requires.shown in
+    let s = c.args.source in
+    let source = c.requires.source in
     let i = c.args.place in
     let at = (goal.at.returns c).After-operations in
     let x = slice_index_or c.operations.result.now i c.index-operations-place.result in
@@ -39,11 +39,11 @@ returns c =
     let view_is = c.operation.view_is ∙ ap (λ (z : OpKey × Operation). z.1) same in
     let within = c.requires.within in
     let none : Standing = record { preds = record { live = false; satisfied = false; nonreporting = false }; waiting = 0 } in
-    let standing = slice_get-get_or s.standings.now i none (omega (arith, within, shown.standings.size)) in
-    let status = slice_get-get_or s.statuses.now i Started (omega (arith, within, shown.statuses.size)) in
+    let standing = slice_get-get_or s.standings.now i none (omega (arith, within, source.standings.size)) in
+    let status = slice_get-get_or s.statuses.now i Started (omega (arith, within, source.statuses.size)) in
     let fits : FitsSigned w64 c.of.result = search rules in
     let back : to_z w64 (of_z w64 c.of.result) ≡ c.of.result = omega (arith, ints, fits) in
-    op_view_at s shown i x.0 _ (slice_index_or s.standings.now i none) (slice_index_or s.statuses.now i Started) (to_z w64 (of_z w64 c.of.result)) c.unwrap-occurrence.result.now
+    op_view_at s source i x.0 _ (slice_index_or s.standings.now i none) (slice_index_or s.statuses.now i Started) (to_z w64 (of_z w64 c.of.result)) c.unwrap-occurrence.result.now
     (row at c.index-operations-place.result ∙ ap (λ z. Some (x.0, z)) (sym view_is))
     standing
     status

@@ -6,5 +6,5 @@ use Rattle.plan_opening.proofs.opening.loaded_with_rows.Goals as goal
 
 pub kept_with_rows-kept-requires : goal.kept_with_rows-kept-requires
 kept_with_rows-kept-requires c = record {
-  graph = subst (λ (s : CountedState). IsGraphFor s.contents c.in_ok-graph.graph) (sym c.of-shown.ensures) (subst (λ (P : Contents). IsGraphFor P c.in_ok-graph.graph) c.valid.ensures.contents c.in_ok-graph.ensures);
+  graph = subst (λ (s : CountedState). IsGraphFor s.contents c.in_ok-graph.graph) (sym c.of-records.ensures) (subst (λ (P : Contents). IsGraphFor P c.in_ok-graph.graph) c.valid.ensures.contents c.in_ok-graph.ensures);
 }

@@ -2,7 +2,7 @@ use Rattle.std.proofs.Common.{◌∙◌, ap}
 use Rattle.plan_rows.proofs.WithinRows.{intervals_ascend}
 use Rattle.plan_rows.proofs.intervals.push_intervals.Goals as goal
 use Rattle.plan_rows.specs.Rows.{all_intervals}
-use Rattle.plan_rows.specs.Shown.{source_if_any}
+use Rattle.plan_rows.specs.Sources.{source_if_any}
 
 pub push_noted_intervals-requires-clause-in_order : goal.push_noted_intervals-requires-clause-in_order
 push_noted_intervals-requires-clause-in_order c =

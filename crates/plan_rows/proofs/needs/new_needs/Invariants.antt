@@ -8,8 +8,8 @@ use Rattle.plan_rows.specs.Rows.{needs_listed}
 abbrev pub invariant-loop-place : goal.invariant-loop-place
 invariant-loop-place l = record {
   within : l.place-index ≤ length l.place-items;
-  contents : l.shown.contents ≡ l.fn.shown.contents;
-  fewest : l.fn.shown.looks ≤ l.shown.looks;
-  most : l.shown.looks ≤ l.fn.shown.looks + l.place-index;
-  added : AreAddedTo needs_listed (entries l.fn.shown.contents.operations) l.place-items l.place-index [] l.needs.items;
+  contents : l.records.contents ≡ l.fn.records.contents;
+  fewest : l.fn.records.looks ≤ l.records.looks;
+  most : l.records.looks ≤ l.fn.records.looks + l.place-index;
+  added : AreAddedTo needs_listed (entries l.fn.records.contents.operations) l.place-items l.place-index [] l.needs.items;
 }

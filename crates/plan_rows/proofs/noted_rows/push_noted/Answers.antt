@@ -12,42 +12,42 @@ use Rattle.plan_rows.proofs.noted_rows.push_noted.Goals as goal
 use Rattle.plan_rows.proofs.noted_rows.push_noted.Goals.{then-ne+in_ok-push, else-ne}
 use Rattle.plan_rows.specs.Notes.{IsNotedAt}
 use Rattle.plan_rows.specs.Rows.{rows_of}
-use Rattle.plan_rows.specs.Shown.{IsShown, shown_with}
+use Rattle.plan_rows.specs.Sources.{IsSource, source_with}
 
 pub loop-note-init : goal.loop-note-init
 loop-note-init g c = record {
   contents = refl;
   fewest = omega arith;
   most = omega arith;
-  told = λ news places up noted. told_none (rows_of (g.T.Tabled.keyed (shown_with c.args.shown.now.contents c.args.columns))) news places c.args.rows.now.items;
+  told = λ news places up noted. told_none (rows_of (g.T.Tabled.keyed (source_with c.args.records.now.contents c.args.columns))) news places c.args.rows.now.items;
   count = λ p. omega arith;
 }
 
-pub seen-requires-clause-shown : goal.seen-requires-clause-shown
-seen-requires-clause-shown g c = subst (λ (P : Contents). IsShown (shown_with P c.args.columns)) (sym c.loop-note.invariant.contents) c.requires.shown
+pub seen-requires-clause-source : goal.seen-requires-clause-source
+seen-requires-clause-source g c = subst (λ (P : Contents). IsSource (source_with P c.args.columns)) (sym c.loop-note.invariant.contents) c.requires.source
 
 pub seen-requires-clause-within : goal.seen-requires-clause-within
 seen-requires-clause-within g c =
     let note = c.note-item.result in
-    subst (λ (P : Contents). note.place < length (keys_of (g.T.Tabled.keyed (shown_with P c.args.columns)))) (sym c.loop-note.invariant.contents)
+    subst (λ (P : Contents). note.place < length (keys_of (g.T.Tabled.keyed (source_with P c.args.columns)))) (sym c.loop-note.invariant.contents)
     (c.requires.within note (subst (Contains c.args.notes.now) (sym c.note-item.is) (Contains-get_or c.args.notes.now c.loop-note.note-index note c.loop-note-test.true)))
 
 pub returns-clause-told : goal.returns-clause-told
 returns-clause-told g c = λ news places up noted.
     let end = c.loop-note-test.false in
     let size = paired_length (IsNotedAt news) places c.args.notes.now noted in
-    told_all (rows_of (g.T.Tabled.keyed (shown_with c.args.shown.now.contents c.args.columns))) news places c.loop-note.note-index c.args.rows.now.items c.loop-note.rows.items (omega (arith, end, size)) (c.loop-note.invariant.told news places up noted)
+    told_all (rows_of (g.T.Tabled.keyed (source_with c.args.records.now.contents c.args.columns))) news places c.loop-note.note-index c.args.rows.now.items c.loop-note.rows.items (omega (arith, end, size)) (c.loop-note.invariant.told news places up noted)
 
 pub loop-note-preserved : goal.loop-note-preserved
 loop-note-preserved g c =
     let inv = c.loop-note.invariant in
-    let olds = rows_of (g.T.Tabled.keyed (shown_with c.args.shown.now.contents c.args.columns)) in
+    let olds = rows_of (g.T.Tabled.keyed (source_with c.args.records.now.contents c.args.columns)) in
     let k = c.loop-note.note-index in
     let a = g.T.Noted.looks in
     let next = mul-add a k 1 in
     let seen = c.seen.ensures in
     let note = c.note-item.result in
-    let there = subst (λ (P : Contents). slice_get (rows_of (g.T.Tabled.keyed (shown_with P c.args.columns))) note.place ≡ Some c.seen.result) inv.contents seen.row in
+    let there = subst (λ (P : Contents). slice_get (rows_of (g.T.Tabled.keyed (source_with P c.args.columns))) note.place ≡ Some c.seen.result) inv.contents seen.row in
     record {
       contents = seen.contents ∙ inv.contents;
       fewest = omega (arith, seen.fewest, inv.fewest);

@@ -5,7 +5,7 @@ use Rattle.plan_rows.proofs.PairedLists.{paired_length}
 use Rattle.plan_rows.proofs.notes.notes_of.Goals as goal
 use Rattle.plan_rows.specs.Notes.{IsNotedAt}
 use Rattle.plan_rows.specs.Rows.{keyed_operations, rows_of}
-use Rattle.plan_rows.specs.Shown.{shown_with}
+use Rattle.plan_rows.specs.Sources.{source_with}
 
 pub note_occurrences-requires-clause-within : goal.note_occurrences-requires-clause-within
 note_occurrences-requires-clause-within c =
@@ -13,4 +13,4 @@ note_occurrences-requires-clause-within c =
 
 pub returns-clause-noted : goal.returns-clause-noted
 returns-clause-noted c =
-    sym (paired_length (IsNotedAt (rows_of (keyed_operations (shown_with c.args.shown.now.contents c.args.columns)))) c.args.touched.now c.in_ok-operations.operations.items c.in_ok-operations.ensures.notes)
+    sym (paired_length (IsNotedAt (rows_of (keyed_operations (source_with c.args.records.now.contents c.args.columns)))) c.args.touched.now c.in_ok-operations.operations.items c.in_ok-operations.ensures.notes)

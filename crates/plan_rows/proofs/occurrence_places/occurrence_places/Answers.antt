@@ -16,11 +16,11 @@ loop-place-preserved c =
     let k = c.loop-place.place-index in
     let i = get_or touched k 0 in
     rw c.in_ok-push.ensures.items
-    (all_zip_more (BelongsAt c.args.shown.now.contents) touched c.loop-place.places.items k i c.occurrence_place.result c.loop-place-test.true (get_or_default touched k 0 i c.loop-place-test.true) c.loop-place.invariant c.occurrence_place.ensures)
+    (all_zip_more (BelongsAt c.args.records.now.contents) touched c.loop-place.places.items k i c.occurrence_place.result c.loop-place-test.true (get_or_default touched k 0 i c.loop-place-test.true) c.loop-place.invariant c.occurrence_place.ensures)
 
 pub returns : goal.returns
 returns c =
-    let P = c.args.shown.now.contents in
+    let P = c.args.records.now.contents in
     let touched = c.args.touched.now in
     let end = c.loop-place-test.false in
     let belong = subst (λ taken. AllZip (BelongsAt P) taken c.loop-place.places.items) (take_all c.loop-place.place-index touched (omega (arith, end))) c.loop-place.invariant in

@@ -5,4 +5,4 @@ use Rattle.plan_rows.specs.Touched.{BelongsAt}
 
 -- of each touched operation so far its occurrence
 abbrev pub invariant-loop-place : goal.invariant-loop-place
-invariant-loop-place l = AllZip (BelongsAt l.shown.contents) (take l.place-index l.touched) l.places.items
+invariant-loop-place l = AllZip (BelongsAt l.records.contents) (take l.place-index l.touched) l.places.items

@@ -3,13 +3,13 @@ use Rattle.plan_rows.proofs.operations.are_known_alike.Goals as goal
 
 pub have_one_status-requires-clause-old : goal.have_one_status-requires-clause-old
 have_one_status-requires-clause-old c =
-    let (P, shown, lt) = c.requires.before in
-    omega (arith, lt, shown.statuses.size)
+    let (P, source, lt) = c.requires.before in
+    omega (arith, lt, source.statuses.size)
 
 pub have_one_status-requires-clause-new : goal.have_one_status-requires-clause-new
 have_one_status-requires-clause-new c =
-    let (Q, shown, lt) = c.requires.after in
-    omega (arith, lt, shown.statuses.size)
+    let (Q, source, lt) = c.requires.after in
+    omega (arith, lt, source.statuses.size)
 
 pub returns-then-not-have_one_status : goal.returns-then-not-have_one_status
 returns-then-not-have_one_status c = (
@@ -19,13 +19,13 @@ returns-then-not-have_one_status c = (
 
 pub have_one_start-requires-clause-old : goal.have_one_start-requires-clause-old
 have_one_start-requires-clause-old c =
-    let (P, shown, lt) = c.requires.before in
-    omega (arith, lt, shown.latest.size)
+    let (P, source, lt) = c.requires.before in
+    omega (arith, lt, source.latest.size)
 
 pub have_one_start-requires-clause-new : goal.have_one_start-requires-clause-new
 have_one_start-requires-clause-new c =
-    let (Q, shown, lt) = c.requires.after in
-    omega (arith, lt, shown.latest.size)
+    let (Q, source, lt) = c.requires.after in
+    omega (arith, lt, source.latest.size)
 
 pub returns-then-not-have_one_start : goal.returns-then-not-have_one_start
 returns-then-not-have_one_start c = (
@@ -35,13 +35,13 @@ returns-then-not-have_one_start c = (
 
 pub have_one_number-requires-clause-old : goal.have_one_number-requires-clause-old
 have_one_number-requires-clause-old c =
-    let (P, shown, lt) = c.requires.before in
-    omega (arith, lt, shown.standings.size)
+    let (P, source, lt) = c.requires.before in
+    omega (arith, lt, source.standings.size)
 
 pub have_one_number-requires-clause-new : goal.have_one_number-requires-clause-new
 have_one_number-requires-clause-new c =
-    let (Q, shown, lt) = c.requires.after in
-    omega (arith, lt, shown.standings.size)
+    let (Q, source, lt) = c.requires.after in
+    omega (arith, lt, source.standings.size)
 
 pub returns : goal.returns
 returns c = (

@@ -4,9 +4,9 @@ use Rattle.std.specs.FinMap.{entries}
 use Rattle.std.specs.FinSet.{from_list}
 use Rattle.plan_model.specs.Contents.{Contents, pair_cmp}
 use Rattle.plan_status.specs.Summaries.{IsSummarizedBy}
-use Rattle.plan_status.proofs.InTurn.{AreAllInTurn, IsPairAt, all_shown, comes_after, ends_within, few_edges, pair_below, pair_of, pairs_all, pairs_more, pairs_so_far}
+use Rattle.plan_status.proofs.InTurn.{AreAllInTurn, IsPairAt, all_lent, comes_after, ends_within, few_edges, pair_below, pair_of, pairs_all, pairs_more, pairs_so_far}
 use Rattle.plan_status.proofs.LoadedRows.{few_rows}
-use Rattle.plan_status.proofs.RowKeys.{row_shown}
+use Rattle.plan_status.proofs.RowKeys.{row_lent}
 use Rattle.plan_status.proofs.RowStandings.{at_most_first, at_most_more, standing_at, standings_all, standings_first, standings_more}
 use Rattle.plan_status.proofs.standings.standings_of.Goals as goal
 use Rattle.plan_status.proofs.standings.standings_of.Goals.{After-deref-before-items}
@@ -22,7 +22,7 @@ loop-before-init c P plan =
 
 -- all edges of the graph, in turn
 all_edges : (c : After-deref-before-items) → AreAllInTurn c.args.graph.now c.deref-before-items.result.now
-all_edges c = all_shown c.args.graph.now c.deref-before-items.result.now _ c.deref-before-items.ensures.value c.in_ok-edges_in_turn.ensures.edges c.in_ok-edges_in_turn.ensures.in_turn
+all_edges c = all_lent c.args.graph.now c.deref-before-items.result.now _ c.deref-before-items.ensures.value c.in_ok-edges_in_turn.ensures.edges c.in_ok-edges_in_turn.ensures.in_turn
 
 -- the edge at an index
 abbrev edge : After-deref-before-items → ℕ → ℕ × ℕ
@@ -103,7 +103,7 @@ loop-before-preserved c P plan =
     let rows = entries P.operations in
     let keys = pair_of rows e in
     let summary = c.index-summaries-before.result in
-    let is_summary = row_shown summaries summaries refl e.0 summary (within a P plan i lt).0 c.index-summaries-before.is in
+    let is_summary = row_lent summaries summaries refl e.0 summary (within a P plan i lt).0 c.index-summaries-before.is in
     let has = plan.summaries.each e.0 keys.0 pair.before summary pair.first is_summary in
     let standings = c.loop-before.standings.items in
     let invariant = c.loop-before.invariant P plan in

@@ -2,7 +2,7 @@ use Rattle.std.proofs.Common.{arith, refl, ◌<◌, length}
 use Rattle.std.proofs.lemmas.Option.{slice_get-get_or}
 use Rattle.std.specs.FinMap.{entries}
 use Rattle.plan_model.specs.Status.{HasStatus}
-use Rattle.plan_status.proofs.RowKeys.{row_shown}
+use Rattle.plan_status.proofs.RowKeys.{row_lent}
 use Rattle.plan_status.proofs.SoFar.{all_rows, none_so_far, one_more}
 use Rattle.plan_status.proofs.statuses.statuses_of.Goals as goal
 
@@ -14,7 +14,7 @@ loop-i-preserved c P are standings =
     let i = c.loop-i.i in
     let lt : i < length c.args.summaries.now = omega (arith, c.loop-i-test.true, c.requires) in
     let b = c.index-summaries-i.result in
-    let at = row_shown c.args.summaries.now c.args.summaries.now refl i b lt c.index-summaries-i.is in
+    let at = row_lent c.args.summaries.now c.args.summaries.now refl i b lt c.index-summaries-i.is in
     rw c.in_ok-push.ensures.items
     (one_more (entries P.operations) (HasStatus P) i c.loop-i.statuses.items (c.loop-i.invariant P are standings) c.status.result (λ k v here.
     c.status.ensures P k (are.each i k v b here at) (standings.each i k v _ here (slice_get-get_or c.args.standings.now i _ c.loop-i-test.true))))

@@ -7,7 +7,7 @@ use Rattle.plan_laws.specs.plan_drafts.proofs.EntryRows.{row_in}
 use Rattle.plan_model.specs.Contents.{Contents, HasAttribute, Operation}
 use Rattle.plan_model.specs.Valid.{IsValid}
 use Rattle.plan_model.specs.workstations.specs.Workstations.{Workstation}
-use Rattle.plan_status.proofs.RowKeys.{key_of_row, row_shown}
+use Rattle.plan_status.proofs.RowKeys.{key_of_row, row_lent}
 use Rattle.plan_status.proofs.Workplaces.{own_place, workplace_known}
 use Rattle.plan_status.proofs.summaries.summary_of.Goals as goal
 
@@ -25,9 +25,9 @@ returns c =
     subst (λ (Q : Contents). (ws : Workstation) × (slice_get (entries Q.workstations) station ≡ Some (op.workstation, ws))) c.rows-rows.ensures.contents
     (own_place (entries c.rows-rows.result.now.workstations) station c.operation.inside.workstation op.workstation (ap (λ (x : Operation). x.workstation) c.operation.view_is) c.known_workstation_place_near-station.ensures.at) in
     let row = c.index-workstations-station.result in
-    let shown = c.workstations.ensures.rows ∙ ap (λ (Q : Contents). entries Q.workstations) c.rows-rows.ensures.contents in
+    let lent = c.workstations.ensures.rows ∙ ap (λ (Q : Contents). entries Q.workstations) c.rows-rows.ensures.contents in
     let within : station < length c.workstations.result.now = omega (arith, c.known_workstation_place_near-station.ensures.within, ap length c.workstations.ensures.rows) in
-    let here = row_shown c.workstations.result.now (entries P.workstations) shown station row within c.index-workstations-station.is in
+    let here = row_lent c.workstations.result.now (entries P.workstations) lent station row within c.index-workstations-station.is in
     let same : row ≡ (op.workstation, at.0) = same_Some row (op.workstation, at.0) (sym here ∙ at.1) in
     let reports : HasAttribute P op.workstation c.attribute.result =
     ap (option_map (λ (ws : Workstation). ws.attribute)) (row_in name_cmp_total name_cmp-IsAntisymmetric P.workstations station op.workstation at.0 at.1)

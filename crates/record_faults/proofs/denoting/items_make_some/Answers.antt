@@ -1,8 +1,8 @@
 use Rattle.std.proofs.Common.{◌≡◌, ◌<◌, true, false, eqb, sym, subst, refl, true≢false, length}
 use Rattle.std.specs.FinMap.{len}
 use Rattle.plan_model.specs.Contents.{Contents}
-use Rattle.plan_drafts.proofs.Denoting.{no_entry, some_entry}
-use Rattle.plan_drafts.proofs.Unique.{one_plan_of_items}
+use Rattle.plan_denotation.proofs.Denoting.{no_entry, some_entry}
+use Rattle.plan_denotation.proofs.Unique.{one_plan_of_items}
 use Rattle.record_faults.proofs.denoting.items_make_some.Goals as goal
 
 pub returns-then-is_empty : goal.returns-then-is_empty

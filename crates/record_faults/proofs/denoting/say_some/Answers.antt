@@ -1,7 +1,7 @@
 use Rattle.std.proofs.Common.{◌≡◌, ◌↔◌, sym, subst, true≢false, Some, None, IfOk, IsTrue, All}
 use Rattle.std.specs.Prelude.{slice_get}
 use Rattle.plan_items.specs.Items.{IsItem}
-use Rattle.plan_drafts.proofs.Denoting.{items_legal}
+use Rattle.plan_denotation.proofs.Denoting.{items_legal}
 use Rattle.record_faults.specs.Plans.{MakeSome}
 use Rattle.record_faults.specs.Sayings.{Sayings, AreSayings}
 use Rattle.record_faults.proofs.Denoted.{said_all, no_gap, say_of_items}

@@ -23,11 +23,11 @@ pub returns-in_err-extension-clause-refused : goal.returns-in_err-extension-clau
 returns-in_err-extension-clause-refused c =
     let q = c.args.asked.now in
     let none : c.args.extension.now ≡ None = search rules in
-    let step = bad_text_stops c.args.shown.now.contents q.clock q.at q.request.now c.requires.at c.requires.onward c.requires.moment (c.requires.is ∙ ap what.Extend none) in
+    let step = bad_text_stops c.args.records.now.contents q.clock q.at q.request.now c.requires.at c.requires.onward c.requires.moment (c.requires.is ∙ ap what.Extend none) in
     search rules
 
 pub rows_of-requires : goal.rows_of-requires
-rows_of-requires c = c.columns_of.ensures c.args.shown.now.contents c.uncounted.ensures.sound c.requires.derived
+rows_of-requires c = c.columns_of.ensures c.args.records.now.contents c.uncounted.ensures.sound c.requires.derived
 
 pub remaining_of-requires : goal.remaining_of-requires
 remaining_of-requires c = subst (λ (P : Contents). AreDerivedOf P c.args.derived) (sym c.in_ok-rows.ensures.contents) c.requires.derived
@@ -38,12 +38,12 @@ extended-requires-clause-in_order c = subst (λ (rows : List PlanRow). IsStrictl
 pub extended-requires-clause-sound : goal.extended-requires-clause-sound
 extended-requires-clause-sound c =
     let leaves = c.in_ok-left.ensures.left in
-    subst IsSound (sym leaves.2) (left_is_sound c.rows_of.new.shown.contents leaves.0 c.in_ok-left.ensures.sound)
+    subst IsSound (sym leaves.2) (left_is_sound c.rows_of.new.records.contents leaves.0 c.in_ok-left.ensures.sound)
 
 -- what the extension leads to in the plan
 module _ (c : After-extended) where
   abbrev P : Contents
-  P = c.args.shown.now.contents
+  P = c.args.records.now.contents
 
   abbrev left : Contents
   left = c.in_ok-left.left.copy
@@ -79,8 +79,8 @@ returns-clause-looked c =
     let copy = c.in_ok-left.ensures in
     let same = ap (λ (Q : Contents). length (entries Q.operations)) rows.contents in
     extension_looks (P at) q.clock q.at q.request.now c.requires.at c.requires.onward c.requires.moment (added_of c.parts.result.now) (is at) (left at) (leaves at) c.parts.ensures.in_order.extension a
-    c.uncounted.ensures.sound c.rows_of.new.shown.looks c.remaining_of.new.shown.looks (is_rebuild at)
+    c.uncounted.ensures.sound c.rows_of.new.records.looks c.remaining_of.new.records.looks (is_rebuild at)
     (omega (arith, rows.most, copy.most, same, c.requires.none))
-    (subst (λ (n : ℕ). (18446744073709551615 ≤ c.remaining_of.new.shown.looks) ⊎ (c.rows_of.new.shown.looks + n ≤ c.remaining_of.new.shown.looks)) same copy.least)
+    (subst (λ (n : ℕ). (18446744073709551615 ≤ c.remaining_of.new.records.looks) ⊎ (c.rows_of.new.records.looks + n ≤ c.remaining_of.new.records.looks)) same copy.least)
     c.extended.ensures.most
     (settled_count (with_added (left at) (added_of c.parts.result.now)) q.at a a.rebuilt c.extended.ensures.rebuilt_parts)

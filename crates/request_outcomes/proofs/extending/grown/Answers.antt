@@ -10,20 +10,20 @@ use Rattle.plan_drafts.specs.PlanGraphs.{IsGraphFor}
 use Rattle.plan_model.specs.Contents.{Contents}
 use Rattle.small_requests.specs.plan_changes.proofs.Answered.{if_ok}
 
--- what is shown then is what is left with what is added
-grown_is : (c : In-Ok) → c.joined-shown.result.0.contents ≡ with_added c.args.left.contents (added_of c.args.parts.now)
-grown_is c = subst (λ r. OnOk r (c.joined-shown.result.0.contents ≡ with_added c.args.left.contents (added_of c.args.parts.now))) c.in-Ok.is c.joined-shown.ensures.contents
+-- the records then hold what is left with what is added
+grown_is : (c : In-Ok) → c.joined-records.result.0.contents ≡ with_added c.args.left.contents (added_of c.args.parts.now)
+grown_is c = subst (λ r. OnOk r (c.joined-records.result.0.contents ≡ with_added c.args.left.contents (added_of c.args.parts.now))) c.in-Ok.is c.joined-records.ensures.contents
 
 pub rebuilt_plan-requires-clause-before : goal.rebuilt_plan-requires-clause-before
 rebuilt_plan-requires-clause-before c os chosen = c.requires.in_order
 
 pub rebuilt_plan-requires-clause-graph : goal.rebuilt_plan-requires-clause-graph
-rebuilt_plan-requires-clause-graph c = subst (λ r. IfOk r (λ (g : Digraph). IsGraphFor c.joined-shown.result.0.contents g)) c.in-Ok.is c.joined-shown.ensures.graph
+rebuilt_plan-requires-clause-graph c = subst (λ r. IfOk r (λ (g : Digraph). IsGraphFor c.joined-records.result.0.contents g)) c.in-Ok.is c.joined-records.ensures.graph
 
 pub returns-in-Ok-clause-rebuilt_parts : goal.returns-in-Ok-clause-rebuilt_parts
 returns-in-Ok-clause-rebuilt_parts c =
     let at = (goal.at.returns-in-Ok-clause-rebuilt_parts c).In-Ok in
-    subst (λ (Q : Contents). IfOk c.rebuilt_plan.result.rebuilt (λ x. AreRebuiltPartsOf Q c.args.at c.rebuilt_plan.result.shown.contents x.rebuilt_parts)) (grown_is at) c.rebuilt_plan.ensures.rebuilt_parts
+    subst (λ (Q : Contents). IfOk c.rebuilt_plan.result.rebuilt (λ x. AreRebuiltPartsOf Q c.args.at c.rebuilt_plan.result.records.contents x.rebuilt_parts)) (grown_is at) c.rebuilt_plan.ensures.rebuilt_parts
 
 pub returns-in-Ok-clause-told : goal.returns-in-Ok-clause-told
 returns-in-Ok-clause-told c = if_ok c.rebuilt_plan.result.rebuilt (λ x told P are. told P are) c.rebuilt_plan.ensures.told
@@ -31,6 +31,6 @@ returns-in-Ok-clause-told c = if_ok c.rebuilt_plan.result.rebuilt (λ x told P a
 pub returns-in-Ok-clause-most : goal.returns-in-Ok-clause-most
 returns-in-Ok-clause-most c =
     let at = (goal.at.returns-in-Ok-clause-most c).In-Ok in
-    let looks = c.joined-shown.ensures.looks in
+    let looks = c.joined-records.ensures.looks in
     if_ok c.rebuilt_plan.result.rebuilt (λ x few. omega (arith, few, looks))
-    (subst (λ (Q : Contents). IfOk c.rebuilt_plan.result.rebuilt (λ _. c.rebuilt_plan.result.shown.looks + 0 ≤ c.joined-shown.result.0.looks + 4 * length (entries Q.operations))) (grown_is at) c.rebuilt_plan.ensures.most)
+    (subst (λ (Q : Contents). IfOk c.rebuilt_plan.result.rebuilt (λ _. c.rebuilt_plan.result.records.looks + 0 ≤ c.joined-records.result.0.looks + 4 * length (entries Q.operations))) (grown_is at) c.rebuilt_plan.ensures.most)

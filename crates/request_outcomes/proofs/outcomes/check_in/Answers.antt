@@ -10,14 +10,14 @@ use Rattle.plan_model.specs.Plan.{Plan, plan_held}
 
 pub returns-in-Load-clause-ok : goal.returns-in-Load-clause-ok
 returns-in-Load-clause-ok c = λ clock.
-    let P = plan_held clock (Some c.args.shown.now.contents) in
+    let P = plan_held clock (Some c.args.records.now.contents) in
     if_ok c.check_load.result c.check_load.ensures.ok (λ may. subst (λ (v : What). NoneRefuses (MayBeMadeAt P c.args.at v)) (sym c.in-Load.is) (load_is_free P c.args.at c.in-Load.draft may))
 
 pub returns-in_default : goal.returns-in_default
 returns-in_default c =
     let w = c.args.what.now in
     let m = c.args.at in
-    let held : ℕ → Plan = λ clock. plan_held clock (Some c.args.shown.now.contents) in
+    let held : ℕ → Plan = λ clock. plan_held clock (Some c.args.records.now.contents) in
     let told = c.check_request in
     let other : ¬ IsLoad w = search rules in
     record {

@@ -10,7 +10,7 @@ accepted_outcome-requires-clause-acceptable c =
     subst (λ (P : Contents). IsAcceptable P q) (sym c.in-Ok.ensures.contents) (record {
       clock = c.requires.clock;
       at = c.requires.at;
-      clear = may_be_accepted (plan_asked c.args.shown.contents q) q.request.now q.at c.requires.at c.requires.onward c.requires.moment (c.in-Ok.ensures.ok q.clock);
+      clear = may_be_accepted (plan_asked c.args.records.contents q) q.request.now q.at c.requires.at c.requires.onward c.requires.moment (c.in-Ok.ensures.ok q.clock);
     })
 
 pub returns-in-Err-clause-refused : goal.returns-in-Err-clause-refused
@@ -18,5 +18,5 @@ returns-in-Err-clause-refused c =
     let q = c.args.asked.now in
     elim (c.in-Err.ensures.refused q.clock) [
       | inl memory ↦ inl memory
-      | inr stopped ↦ inr (is_refused (plan_asked c.args.shown.contents q) q.request.now q.at c.requires.at c.requires.onward c.requires.moment c.in-Err.refusal stopped)
+      | inr stopped ↦ inr (is_refused (plan_asked c.args.records.contents q) q.request.now q.at c.requires.at c.requires.onward c.requires.moment c.in-Err.refusal stopped)
     ]

@@ -29,20 +29,20 @@ pub with_only-requires : goal.with_only-requires
 with_only-requires c = sorted c.in_ok-staying.staying.items c.deref-2.result.now c.deref-2.ensures.value c.in_ok-staying.ensures.in_order
 
 -- what is copied is the plan with what stays alone
-left_is : (c : In_ok-left) → c.in_ok-left.left ≡ with_only (is_one_of c.in_ok-staying.staying.items) c.args.shown.now.contents
+left_is : (c : In_ok-left) → c.in_ok-left.left ≡ with_only (is_one_of c.in_ok-staying.staying.items) c.args.records.now.contents
 left_is c =
     c.in_ok-left.ensures
     ∙ (λ i. with_only (is_one_of (c.deref-2.ensures.value i)) (c.in_ok-copy.ensures.copy i))
 
 pub returns-clause-left : goal.returns-clause-left
 returns-clause-left c =
-    let P = c.args.shown.now.contents in
+    let P = c.args.records.now.contents in
     let staying = c.in_ok-staying.staying.items in
     (is_one_of staying, subst (λ (Q : Contents). (k : OccKey) → (is_one_of staying k ≡ true) ↔ ¬ IsOver Q k) (c.of.ensures ∙ c.uncounted.ensures.contents) c.in_ok-staying.ensures.stay, left_is (goal.at.returns-clause-left c).In_ok-left)
 
 pub returns-clause-graph : goal.returns-clause-graph
 returns-clause-graph c =
-    let P = c.args.shown.now.contents in
+    let P = c.args.records.now.contents in
     let staying = c.in_ok-staying.staying.items in
     subst (λ (Q : Contents). IsGraphFor Q c.in_ok-graph.graph) (sym (left_is (goal.at.returns-clause-graph c).In_ok-left))
     (subst (λ (Q : Contents). IsGraphFor Q c.in_ok-graph.graph) (λ i. with_only (is_one_of (c.deref.ensures.value i)) (c.uncounted-2.ensures.contents i)) c.in_ok-graph.ensures.graph)

@@ -27,7 +27,7 @@ update_standings-requires-clause-within c =
 
 pub update_standings-requires-clause-counters : goal.update_standings-requires-clause-counters
 update_standings-requires-clause-counters c =
-    let Q = c.args.shown.now.contents in
+    let Q = c.args.records.now.contents in
     let l = c.args.columns.now in
     let g = c.args.groundwork.now in
     let has = c.requires.groundwork.2 in
@@ -36,21 +36,21 @@ update_standings-requires-clause-counters c =
 
 pub update_statuses-requires-clause-within : goal.update_statuses-requires-clause-within
 update_statuses-requires-clause-within c =
-    let n = length (entries c.args.shown.now.contents.operations) in
+    let n = length (entries c.args.records.now.contents.operations) in
     subst (All (λ i. i < n)) (sym c.deref-5.ensures.value) (all_below n c.args.groundwork.now.touched.items c.requires.groundwork.2.worked_out.moved_on.touched.within)
 
 -- the kept ones are those then
-kept_is : (c : After-update_standings) → c.deref-2.result.now ≡ then c.requires.groundwork.0 c.args.shown.now.contents c.requires.groundwork.1 c.args.latest.now.starts c.args.columns.now c.args.ready.now c.args.groundwork.now c.requires.groundwork.2
+kept_is : (c : After-update_standings) → c.deref-2.result.now ≡ then c.requires.groundwork.0 c.args.records.now.contents c.requires.groundwork.1 c.args.latest.now.starts c.args.columns.now c.args.ready.now c.args.groundwork.now c.requires.groundwork.2
 kept_is c =
     let l = c.args.columns.now in
     let g = c.args.groundwork.now in
     c.deref-2.ensures.value ∙ vector_overwritten g.wait_states.items l.wait_states c.deref.result.now c.deref_mut.result.now c.put_at.new.list c.deref.ensures.value c.deref_mut.ensures.value c.put_at.ensures
 
 -- the standings are those of the plan then
-stands : (c : After-update_standings) → AreStandings c.args.shown.now.contents c.update_standings.new.standings
+stands : (c : After-update_standings) → AreStandings c.args.records.now.contents c.update_standings.new.standings
 stands c =
     let P = c.requires.groundwork.0 in
-    let Q = c.args.shown.now.contents in
+    let Q = c.args.records.now.contents in
     let l = c.args.columns.now in
     let g = c.args.groundwork.now in
     let has = c.requires.groundwork.2 in
@@ -67,21 +67,21 @@ stands_back c =
     let right = stands c in
     with_items_is l.standings c.update_standings.new.standings (omega (arith, right.size, has.columns.standings.size, has.moved.size, l.standings.ok.0))
 
-standings_then : (c : After-update_standings) → AreStandings c.args.shown.now.contents (with_items c.args.columns.now.standings c.update_standings.new.standings).items
-standings_then c = subst (AreStandings c.args.shown.now.contents) (sym (stands_back c)) (stands c)
+standings_then : (c : After-update_standings) → AreStandings c.args.records.now.contents (with_items c.args.columns.now.standings c.update_standings.new.standings).items
+standings_then c = subst (AreStandings c.args.records.now.contents) (sym (stands_back c)) (stands c)
 
 pub update_statuses-requires-clause-standings : goal.update_statuses-requires-clause-standings
 update_statuses-requires-clause-standings c =
     let k : After-update_standings = (goal.at.update_statuses-requires-clause-standings c).After-update_standings in
-    subst (AreStandings c.args.shown.now.contents) (sym (c.deref-4.ensures.value ∙ stands_back k)) (stands k)
+    subst (AreStandings c.args.records.now.contents) (sym (c.deref-4.ensures.value ∙ stands_back k)) (stands k)
 
 pub update_statuses-requires-clause-latest : goal.update_statuses-requires-clause-latest
-update_statuses-requires-clause-latest c = (frame_stays c.requires.groundwork.0 c.args.shown.now.contents c.requires.groundwork.1 c.requires.groundwork.2.moved c.requires.groundwork.2.alike).latest c.args.latest.now.starts c.requires.groundwork.2.latest
+update_statuses-requires-clause-latest c = (frame_stays c.requires.groundwork.0 c.args.records.now.contents c.requires.groundwork.1 c.requires.groundwork.2.moved c.requires.groundwork.2.alike).latest c.args.latest.now.starts c.requires.groundwork.2.latest
 
 pub update_statuses-requires-clause-before : goal.update_statuses-requires-clause-before
 update_statuses-requires-clause-before c =
     let P = c.requires.groundwork.0 in
-    let Q = c.args.shown.now.contents in
+    let Q = c.args.records.now.contents in
     let edits = c.requires.groundwork.1 in
     let has = c.requires.groundwork.2 in
     let touched = c.args.groundwork.now.touched.items in (
@@ -98,7 +98,7 @@ update_statuses-requires-clause-before c =
     )
 
 pub update_statuses-requires-clause-room : goal.update_statuses-requires-clause-room
-update_statuses-requires-clause-room c = room_after c.requires.groundwork.0 c.args.shown.now.contents c.requires.groundwork.1 c.requires.groundwork.2.moved c.args.ready.now c.requires.groundwork.2.ready
+update_statuses-requires-clause-room c = room_after c.requires.groundwork.0 c.args.records.now.contents c.requires.groundwork.1 c.requires.groundwork.2.moved c.args.ready.now c.requires.groundwork.2.ready
 
 -- the columns then
 abbrev columns_then : After-update_statuses → FigureColumns
@@ -107,10 +107,10 @@ columns_then c =
     record l { wait_states = with_items l.wait_states c.put_at.new.list; standings = with_items l.standings c.update_standings.new.standings; statuses = with_items l.statuses c.update_statuses.new.statuses; tallies = with_items l.tallies c.update_statuses.new.tallies }
 
 -- they are those of the plan
-moved_columns : (c : After-update_statuses) → AreStandings c.args.shown.now.contents (columns_then c).standings.items → AreColumnsOf c.args.shown.now.contents (columns_then c)
+moved_columns : (c : After-update_statuses) → AreStandings c.args.records.now.contents (columns_then c).standings.items → AreColumnsOf c.args.records.now.contents (columns_then c)
 moved_columns c standings =
     let P = c.requires.groundwork.0 in
-    let Q = c.args.shown.now.contents in
+    let Q = c.args.records.now.contents in
     let l = c.args.columns.now in
     let g = c.args.groundwork.now in
     let has = c.requires.groundwork.2 in
@@ -130,11 +130,11 @@ returns-clause-columns c = moved_columns (goal.at.returns-clause-columns c).Afte
 
 pub returns-clause-ready : goal.returns-clause-ready
 returns-clause-ready c =
-    let Q = c.args.shown.now.contents in
+    let Q = c.args.records.now.contents in
     let room = room_after c.requires.groundwork.0 Q c.requires.groundwork.1 c.requires.groundwork.2.moved c.args.ready.now c.requires.groundwork.2.ready in
     record { listed = c.update_statuses.ensures.ready; room = omega (arith, room, c.update_statuses.ensures.room) }
 
 pub returns-clause-back : goal.returns-clause-back
 returns-clause-back c =
-    makes_back c.requires.groundwork.0 c.args.shown.now.contents c.requires.groundwork.1 c.args.latest.now.starts c.args.columns.now c.args.ready.now c.args.groundwork.now c.requires.groundwork.2 _
+    makes_back c.requires.groundwork.0 c.args.records.now.contents c.requires.groundwork.1 c.args.latest.now.starts c.args.columns.now c.args.ready.now c.args.groundwork.now c.requires.groundwork.2 _
     (moved_columns (goal.at.returns-clause-back c).After-update_statuses (standings_then (goal.at.returns-clause-back c).After-update_standings))

@@ -33,21 +33,21 @@ keys_at-requires c =
     (all_below n c.in_ok-places.places.items (λ i has. subst (λ (Q : Contents). i < length (entries Q.operations)) (sym c.uncounted-3.ensures.contents) (c.in_ok-places.ensures.places.within i has)))
 
 -- the keys stand at the places
-stand : (c : After-deref-2) → StandAt (keys c.args.shown.now.contents.operations) c.in_ok-places.places.items c.in_ok-keys.keys.items
+stand : (c : After-deref-2) → StandAt (keys c.args.records.now.contents.operations) c.in_ok-places.places.items c.in_ok-keys.keys.items
 stand c =
     subst (λ (Q : Contents). StandAt (keys Q.operations) c.in_ok-places.places.items c.in_ok-keys.keys.items) (c.uncounted-3.ensures.contents ∙ c.of-outline.ensures ∙ c.uncounted.ensures.contents)
     (subst (λ ps. StandAt (keys c.uncounted-3.result.contents.now.operations) ps c.in_ok-keys.keys.items) c.deref.ensures.value c.in_ok-keys.ensures)
 
 pub markings_of-requires : goal.markings_of-requires
 markings_of-requires c =
-    let P = c.args.shown.now.contents in
+    let P = c.args.records.now.contents in
     subst (λ (os : List OpKey). All (IsInPlan P) os) (sym c.deref-2.ensures.value)
     (keys_in_plan P c.in_ok-places.places.items c.in_ok-keys.keys.items (stand c))
 
 pub returns-clause-noted : goal.returns-clause-noted
 returns-clause-noted c =
     let k : After-deref-2 = (goal.at.returns-clause-noted c).After-deref-2 in
-    let P = c.args.shown.now.contents in
+    let P = c.args.records.now.contents in
     let w = c.args.what.now in
     let outline : c.of-outline.result ≡ P = c.of-outline.ensures ∙ c.uncounted.ensures.contents in
     record {
@@ -62,6 +62,6 @@ pub returns-clause-most : goal.returns-clause-most
 returns-clause-most c =
     let k : After-deref-2 = (goal.at.returns-clause-most c).After-deref-2 in
     let as_many : length c.in_ok-keys.keys.items ≡ length c.in_ok-places.places.items =
-    sym (length-map c.in_ok-keys.keys.items Some) ∙ sym (ap length (stand k)) ∙ length-map c.in_ok-places.places.items (slice_get (keys c.args.shown.now.contents.operations)) in
-    let most = subst (λ n. c.markings_of.new.self.looks ≤ c.args.shown.now.looks + n) (ap length c.deref-2.ensures.value ∙ as_many) c.in_ok-marks.ensures.most in
+    sym (length-map c.in_ok-keys.keys.items Some) ∙ sym (ap length (stand k)) ∙ length-map c.in_ok-places.places.items (slice_get (keys c.args.records.now.contents.operations)) in
+    let most = subst (λ n. c.markings_of.new.self.looks ≤ c.args.records.now.looks + n) (ap length c.deref-2.ensures.value ∙ as_many) c.in_ok-marks.ensures.most in
     most

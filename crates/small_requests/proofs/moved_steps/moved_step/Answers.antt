@@ -80,11 +80,11 @@ pub returns-clause-step : goal.returns-clause-step
 returns-clause-step c =
     let m = c.args.context.now.at in
     let b = c.args.groundwork_with_room.0.facilities in
-    let middle = c.move_columns.new.shown.looks in
+    let middle = c.move_columns.new.records.looks in
     let last = c.named_step-same.result.0.looks in
     let Q = c.args.after.contents in
     let touched = c.args.groundwork_with_room.0.touched.items in
     let r = c.named_step-same.result.1 in
-    let told = subst (λ ts. IfOk r (IsStepOf c.move_columns.new.shown.contents m ts b middle last)) c.deref.ensures.value c.named_step-same.ensures.step in
+    let told = subst (λ ts. IfOk r (IsStepOf c.move_columns.new.records.contents m ts b middle last)) c.deref.ensures.value c.named_step-same.ensures.step in
     let here = subst (λ (S : Contents). IfOk r (IsStepOf S m touched b middle last)) c.move_columns.ensures.contents told in
     if_ok r (λ s is. (middle, c.move_columns.ensures.fewest, c.move_columns.ensures.most, is)) here

@@ -19,16 +19,16 @@ module _ (c : In-Ok) (P : Contents) (was : WasEdited P c.args.after.contents c.a
       worked_out P c.args.after.contents c.args.edit.now c.args.context.now.graph.now c.args.context.now.latest.now.starts c.args.columns.now c.args.ready.now c.args.allocations was
       c.groundwork_of.new.columns c.groundwork_of.ensures.unchanged c.in-Ok.groundwork_with_room.0 c.in-Ok.ensures.groundwork
 
-  -- the same is shown then
-  has_then : HasGroundwork P c.groundwork_of.new.shown.contents c.args.edit.now.places.items c.args.context.now.latest.now.starts c.groundwork_of.new.columns c.args.ready.now c.in-Ok.groundwork_with_room.0
+  -- the records are the same then
+  has_then : HasGroundwork P c.groundwork_of.new.records.contents c.args.edit.now.places.items c.args.context.now.latest.now.starts c.groundwork_of.new.columns c.args.ready.now c.in-Ok.groundwork_with_room.0
   has_then =
       subst (λ (Q : Contents). HasGroundwork P Q c.args.edit.now.places.items c.args.context.now.latest.now.starts c.groundwork_of.new.columns c.args.ready.now c.in-Ok.groundwork_with_room.0)
       (sym c.groundwork_of.ensures.contents) has
 
 -- what follows is a step in it
-step : (c : After-moved_step) → IfOk c.moved_step.result.1 (IsMovedStepOf c.args.after.contents c.args.context.now.at c.in-Ok.groundwork_with_room.0.touched.items c.in-Ok.groundwork_with_room.0.facilities c.groundwork_of.new.shown.looks c.moved_step.result.0.looks)
+step : (c : After-moved_step) → IfOk c.moved_step.result.1 (IsMovedStepOf c.args.after.contents c.args.context.now.at c.in-Ok.groundwork_with_room.0.touched.items c.in-Ok.groundwork_with_room.0.facilities c.groundwork_of.new.records.looks c.moved_step.result.0.looks)
 step c =
-    subst (λ (Q : Contents). IfOk c.moved_step.result.1 (IsMovedStepOf Q c.args.context.now.at c.in-Ok.groundwork_with_room.0.touched.items c.in-Ok.groundwork_with_room.0.facilities c.groundwork_of.new.shown.looks c.moved_step.result.0.looks))
+    subst (λ (Q : Contents). IfOk c.moved_step.result.1 (IsMovedStepOf Q c.args.context.now.at c.in-Ok.groundwork_with_room.0.touched.items c.in-Ok.groundwork_with_room.0.facilities c.groundwork_of.new.records.looks c.moved_step.result.0.looks))
     c.groundwork_of.ensures.contents c.moved_step.ensures.step
 
 pub moved_step-requires-clause-groundwork : goal.moved_step-requires-clause-groundwork
@@ -62,4 +62,4 @@ returns-in-Ok-clause-looked c =
     let here = (goal.at.returns-in-Ok-clause-looked c).In-Ok in
     if_ok c.moved_step.result.1 (λ s is P was.
     step_looked P c.args.after.contents c.args.edit.now c.args.context.now.latest.now.starts c.groundwork_of.new.columns c.args.ready.now c.in-Ok.groundwork_with_room.0 (has here P was) c.args.context.now.at c.in-Ok.groundwork_with_room.0.facilities
-    c.args.after.looks c.groundwork_of.new.shown.looks c.moved_step.result.0.looks s c.groundwork_of.ensures.fewest c.in-Ok.ensures.counted is) (step (goal.at.returns-in-Ok-clause-looked c).After-moved_step)
+    c.args.after.looks c.groundwork_of.new.records.looks c.moved_step.result.0.looks s c.groundwork_of.ensures.fewest c.in-Ok.ensures.counted is) (step (goal.at.returns-in-Ok-clause-looked c).After-moved_step)

@@ -11,7 +11,7 @@ use Rattle.small_requests.specs.declared.naming_effects.NamingEffects.{NamingEff
 
 pub returns-in-Ok-clause-step : goal.returns-in-Ok-clause-step
 returns-in-Ok-clause-step c =
-    let Q = c.args.shown.contents in
+    let Q = c.args.records.contents in
     let S = c.naming_effects-same.result.0.contents in
     let back : Q ≡ S = sym c.naming_effects-same.ensures.contents in
     let m = c.args.context.now.at in
@@ -20,7 +20,7 @@ returns-in-Ok-clause-step c =
     let r = c.args.ready.now in
     let starts = c.args.context.now.latest.now.starts in
     let f = c.in-Ok.effects in
-    let before = c.args.shown.looks in
+    let before = c.args.records.looks in
     let between = c.naming_effects-same.result.0.looks in
     let told = c.naming_effects-same.ensures in
     let noted = c.note_step.ensures in

@@ -22,10 +22,10 @@ all_ok (Ok x) f a b c = f x a b c
 all_ok (Err e) f a b c = tt
 
 -- it is named so
-is_naming : (c : In_ok-naming) → IsNaming c.args.shown.now.contents c.args.context.now.at c.in_ok-naming.naming
-is_naming c = subst (λ r. IfOk r (IsNaming c.args.shown.now.contents c.args.context.now.at)) c.in_ok-naming.was c.requires.naming
+is_naming : (c : In_ok-naming) → IsNaming c.args.records.now.contents c.args.context.now.at c.in_ok-naming.naming
+is_naming c = subst (λ r. IfOk r (IsNaming c.args.records.now.contents c.args.context.now.at)) c.in_ok-naming.was c.requires.naming
 
-inside : (c : In_ok-naming) → ArePlacesIn c.args.shown.now.contents c.in_ok-naming.naming.places.items
+inside : (c : In_ok-naming) → ArePlacesIn c.args.records.now.contents c.in_ok-naming.naming.places.items
 inside c = let at = (is_naming c).places in record { ascend = at.ascend; within = at.within }
 
 -- the places are those of what is named
@@ -35,7 +35,7 @@ are_its c = c.in_ok-places.ensures.items ∙ c.deref.ensures.value
 pub entries_by_summaries-requires-clause-within : goal.entries_by_summaries-requires-clause-within
 entries_by_summaries-requires-clause-within c =
     let at = goal.at.entries_by_summaries-requires-clause-within c in
-    let n = length (entries c.args.shown.now.contents.operations) in
+    let n = length (entries c.args.records.now.contents.operations) in
     subst (λ (Q : Contents). All (λ i. i < length (entries Q.operations)) c.deref-2.result.now) (sym c.uncounted.ensures.contents)
     (subst (All (λ i. i < n)) (sym (c.deref-2.ensures.value ∙ are_its at.In_ok-places)) (all_below n c.in_ok-naming.naming.places.items (inside at.In_ok-naming).within))
 
@@ -51,18 +51,18 @@ effects_of-requires-clause-naming c = (c.args.context.now.at, is_naming ((goal.a
 pub effects_of-requires-clause-edited : goal.effects_of-requires-clause-edited
 effects_of-requires-clause-edited c =
     let at = goal.at.effects_of-requires-clause-edited c in
-    subst (ArePlacesIn c.args.shown.now.contents) (sym (c.deref-3.ensures.value ∙ are_its at.In_ok-places)) (inside at.In_ok-naming)
+    subst (ArePlacesIn c.args.records.now.contents) (sym (c.deref-3.ensures.value ∙ are_its at.In_ok-places)) (inside at.In_ok-naming)
 
 pub effects_of-requires-clause-known : goal.effects_of-requires-clause-known
 effects_of-requires-clause-known c =
-    let P = c.args.shown.now.contents in
+    let P = c.args.records.now.contents in
     let found = subst (λ (Q : Contents). AreEntriesAt Q c.deref-2.result.now c.in_ok-entries.entries.items) c.uncounted.ensures.contents c.in_ok-entries.ensures in
     subst (λ places. AreEntriesAt P places c.deref-4.result.now) (c.deref-2.ensures.value ∙ sym c.deref-3.ensures.value) (subst (AreEntriesAt P c.deref-2.result.now) (sym c.deref-4.ensures.value) found)
 
 pub returns-clause-effects : goal.returns-clause-effects
 returns-clause-effects c =
     let at = goal.at.returns-clause-effects c in
-    let P = c.args.shown.now.contents in
+    let P = c.args.records.now.contents in
     let m = c.args.context.now.at in
     let same : c.deref-3.result.now ≡ c.in_ok-naming.naming.places.items = c.deref-3.ensures.value ∙ are_its at.In_ok-places in
     if_both_ok c.effects_of.result
@@ -76,13 +76,13 @@ returns-clause-most c = λ n before.
     let at = goal.at.returns-clause-most c in
     let its = c.in_ok-naming.naming.places.items in
     let same : c.deref-3.result.now ≡ its = c.deref-3.ensures.value ∙ are_its at.In_ok-places in
-    let looks = c.effects_of.new.shown.looks in
-    let old : c.args.shown.now.looks ≤ n = subst (λ r. IfOk r (λ (named : Naming). c.args.shown.now.looks ≤ n)) c.in_ok-naming.was before in
+    let looks = c.effects_of.new.records.looks in
+    let old : c.args.records.now.looks ≤ n = subst (λ r. IfOk r (λ (named : Naming). c.args.records.now.looks ≤ n)) c.in_ok-naming.was before in
     all_ok c.effects_of.result
     (λ f is follows most.
     let joined : AreBoth its f.naming.places.items f.touched.items = subst (λ places. AreBoth places f.naming.places.items f.touched.items) same (follows c.args.context.now.at (is_naming at.In_ok-naming)).joined in
     let both : AreBoth its its f.touched.items = subst (λ (n : Naming). AreBoth its n.places.items f.touched.items) is joined in
-    let few : looks ≤ c.args.shown.now.looks + length (unknown_places its f.touched.items) = subst (λ places. looks ≤ c.args.shown.now.looks + length (unknown_places places f.touched.items)) same most in
+    let few : looks ≤ c.args.records.now.looks + length (unknown_places its f.touched.items) = subst (λ places. looks ≤ c.args.records.now.looks + length (unknown_places places f.touched.items)) same most in
     let none = ap length (none_beside its f.touched.items both) in
     omega (arith, few, none, old))
     c.effects_of.ensures.naming c.effects_of.ensures.effects c.effects_of.ensures.most

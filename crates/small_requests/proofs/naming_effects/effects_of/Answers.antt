@@ -13,7 +13,7 @@ use Rattle.small_requests.specs.Effects.{AreStatusesOnceNamed}
 
 module _ (c : In_ok-touched) where
   abbrev P : Contents
-  P = c.args.shown.now.contents
+  P = c.args.records.now.contents
 
   abbrev touched : List ℕ
   touched = c.in_ok-touched.touched.items
@@ -43,7 +43,7 @@ statuses_once_named-requires-clause-within c =
 
 pub entries_at-requires-clause-within : goal.entries_at-requires-clause-within
 entries_at-requires-clause-within c =
-    below (goal.at.entries_at-requires-clause-within c).In_ok-touched (length (entries c.args.shown.now.contents.operations)) refl c.deref-6.result.now c.deref-6.ensures.value
+    below (goal.at.entries_at-requires-clause-within c).In_ok-touched (length (entries c.args.records.now.contents.operations)) refl c.deref-6.result.now c.deref-6.ensures.value
 
 pub returns-clause-effects : goal.returns-clause-effects
 returns-clause-effects c at naming =

@@ -9,15 +9,15 @@ use Rattle.small_requests.proofs.namings.choose_named.Goals.{After-uncounted}
 use Rattle.small_requests.specs.Effects.{IsChoiceOf}
 use Rattle.small_requests.specs.Naming.{IsNaming}
 
--- what is shown is the same
-same : (c : After-uncounted) → c.uncounted.result.contents.now ≡ c.args.shown.contents
-same c = c.uncounted.ensures.contents ∙ c.chosen_with-shown.ensures.contents
+-- the records hold the same
+same : (c : After-uncounted) → c.uncounted.result.contents.now ≡ c.args.records.contents
+same c = c.uncounted.ensures.contents ∙ c.chosen_with-records.ensures.contents
 
 -- it is a choice of that
 is_choice : (c : After-uncounted) → IsChoiceOf c.uncounted.result.contents.now c.args.at c.in-Ok.choice
 is_choice c =
-    let P = c.args.shown.contents in
-    let told = c.chosen_with-shown.ensures in
+    let P = c.args.records.contents in
+    let told = c.chosen_with-records.ensures in
     subst (λ (Q : Contents). IsChoiceOf Q c.args.at c.in-Ok.choice) (sym (same c)) (record {
       chosen = subst (λ r. IfOk r (λ (x : Choice). IsChosen P c.args.at x.named.items)) c.in-Ok.is told.chosen;
       given = subst (λ r. IfOk r (λ (x : Choice). AreGivenOut (named x.named.items P) (entries P.workstations) x.given.items)) c.in-Ok.is told.given;

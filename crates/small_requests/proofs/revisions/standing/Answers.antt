@@ -8,7 +8,7 @@ use Rattle.small_requests.specs.declared.revisions.Revision.TheVariants as revis
 
 pub returns-in-Available : goal.returns-in-Available
 returns-in-Available c =
-    let P = c.args.shown.now.contents in
+    let P = c.args.records.now.contents in
     let r = c.in-Available.name in
     let old = revision.Available r c.unwrap.result.available in
     let h = puts_resource_back P r _ c.unwrap.result (sym (c.resource.ensures ∙ ap (λ (Q : Contents). get Q.resources r) c.uncounted.ensures.contents) ∙ c.unwrap.ensures) in
@@ -16,7 +16,7 @@ returns-in-Available c =
 
 pub returns-in_ok-standing_workstation-in-Opened : goal.returns-in_ok-standing_workstation-in-Opened
 returns-in_ok-standing_workstation-in-Opened c =
-    let P = c.args.shown.now.contents in
+    let P = c.args.records.now.contents in
     let w = c.in-Opened.workstation in
     let told = c.in_ok-standing_workstation-in-Opened.ensures in
     let name = c.name.ensures in

@@ -4,11 +4,11 @@ use Rattle.small_requests.proofs.ColumnParts.{are_columns, are_figures, are_allo
 use Rattle.small_requests.proofs.steps.small_step.Goals as goal
 
 pub tried_step-same-requires-clause-figures : goal.tried_step-same-requires-clause-figures
-tried_step-same-requires-clause-figures c = subst (AreFigures c.args.shown.contents) (sym c.parts_of-columns.ensures) c.requires.figures
+tried_step-same-requires-clause-figures c = subst (AreFigures c.args.records.contents) (sym c.parts_of-columns.ensures) c.requires.figures
 
 pub returns-clause-figures : goal.returns-clause-figures
 returns-clause-figures c =
-    let P = c.args.shown.contents in
+    let P = c.args.records.contents in
     let l = c.parts_of-columns.result.0 in
     let r = c.parts_of-columns.result.1 in
     let s = c.parts_of-columns.result.2 in

@@ -7,4 +7,4 @@ pub returns-clause-back : goal.returns-clause-back
 returns-clause-back c = c.in_ok-back.ensures
 
 pub returns-clause-allocations : goal.returns-clause-allocations
-returns-clause-allocations c = c.in_ok-allocations.ensures.allocations c.args.shown.now.contents c.requires.allocations
+returns-clause-allocations c = c.in_ok-allocations.ensures.allocations c.args.records.now.contents c.requires.allocations

@@ -22,13 +22,13 @@ module _ {Q P : Contents} (same : Q ≡ P) {r : Result SmallStep Refusal} {s : S
 pub returns-in-Ok-step-clause-trial : goal.returns-in-Ok-step-clause-trial
 returns-in-Ok-step-clause-trial c =
     let edit = c.in-Ok.ensures in
-    let step = c.small_step-shown.ensures in
+    let step = c.small_step-records.ensures in
     let same = c.edit_of.ensures.contents in
     let is = c.in-Ok-step.is in
     let m = c.args.context.now.at in
     let e = c.in-Ok.edit in
-    let before = c.edit_of.new.shown.looks in
-    let after = c.small_step-shown.result.0.looks in
+    let before = c.edit_of.new.records.looks in
+    let after = c.small_step-records.result.0.looks in
     record {
       edit = record { fits = edit.edit; legal = edit.legal; changes = edit.changes; worked = edit.worked; rerun = edit.rerun };
       step = record {

@@ -19,12 +19,12 @@ noted_below wait_states now journal new is empty i has =
 
 pub unsatisfy-requires-clause-graph : goal.unsatisfy-requires-clause-graph
 unsatisfy-requires-clause-graph c =
-    graph_after c.requires.before.0 c.args.shown.now.contents c.args.edit.now.places.items c.requires.before.1.edit.moved c.args.graph.now c.requires.before.1.graph
+    graph_after c.requires.before.0 c.args.records.now.contents c.args.edit.now.places.items c.requires.before.1.edit.moved c.args.graph.now c.requires.before.1.graph
 
 pub unsatisfy-requires-clause-moved : goal.unsatisfy-requires-clause-moved
 unsatisfy-requires-clause-moved c =
     let P = c.requires.before.0 in
-    let Q = c.args.shown.now.contents in
+    let Q = c.args.records.now.contents in
     let g = c.args.graph.now in
     let wait_states = c.args.wait_states.now in
     let edit = c.requires.before.1.edit in
@@ -37,12 +37,12 @@ unsatisfy-requires-clause-moved c =
 
 pub satisfy-requires-clause-graph : goal.satisfy-requires-clause-graph
 satisfy-requires-clause-graph c =
-    graph_after c.requires.before.0 c.args.shown.now.contents c.args.edit.now.places.items c.requires.before.1.edit.moved c.args.graph.now c.requires.before.1.graph
+    graph_after c.requires.before.0 c.args.records.now.contents c.args.edit.now.places.items c.requires.before.1.edit.moved c.args.graph.now c.requires.before.1.graph
 
 pub satisfy-requires-clause-moved : goal.satisfy-requires-clause-moved
 satisfy-requires-clause-moved c =
     let P = c.requires.before.0 in
-    let Q = c.args.shown.now.contents in
+    let Q = c.args.records.now.contents in
     let wait_states = c.args.wait_states.now in
     let edit = c.requires.before.1.edit in
     let places = c.args.edit.now.places.items in
@@ -67,15 +67,15 @@ returns-else-edit-clause-within c = on_ok c.satisfy.result (noted_below c.args.w
 pub returns-then-edit-clause-counted : goal.returns-then-edit-clause-counted
 returns-then-edit-clause-counted c =
     let P = c.requires.before.0 in
-    let Q = c.args.shown.now.contents in
+    let Q = c.args.records.now.contents in
     let graph = graph_after P Q c.args.edit.now.places.items c.requires.before.1.edit.moved c.args.graph.now c.requires.before.1.graph in
     on_ok_both c.unsatisfy.result c.unsatisfy.ensures.places c.unsatisfy.ensures.most
-    (counted_anew Q c.args.edit.now c.args.graph.now graph c.deref.result.now c.deref.ensures.value c.args.wait_states.now c.unsatisfy.new.wait_states c.args.journal.now.items c.unsatisfy.new.journal.items c.requires.journal c.args.shown.now.looks c.unsatisfy.new.shown.looks c.if-edit.true)
+    (counted_anew Q c.args.edit.now c.args.graph.now graph c.deref.result.now c.deref.ensures.value c.args.wait_states.now c.unsatisfy.new.wait_states c.args.journal.now.items c.unsatisfy.new.journal.items c.requires.journal c.args.records.now.looks c.unsatisfy.new.records.looks c.if-edit.true)
 
 pub returns-else-edit-clause-counted : goal.returns-else-edit-clause-counted
 returns-else-edit-clause-counted c =
     let P = c.requires.before.0 in
-    let Q = c.args.shown.now.contents in
+    let Q = c.args.records.now.contents in
     let graph = graph_after P Q c.args.edit.now.places.items c.requires.before.1.edit.moved c.args.graph.now c.requires.before.1.graph in
     on_ok_both c.satisfy.result c.satisfy.ensures.places c.satisfy.ensures.most
-    (counted_up Q c.args.edit.now c.args.graph.now graph c.deref-else-edit.result.now c.deref-else-edit.ensures.value c.args.wait_states.now c.satisfy.new.wait_states c.args.journal.now.items c.satisfy.new.journal.items c.requires.journal c.args.shown.now.looks c.satisfy.new.shown.looks)
+    (counted_up Q c.args.edit.now c.args.graph.now graph c.deref-else-edit.result.now c.deref-else-edit.ensures.value c.args.wait_states.now c.satisfy.new.wait_states c.args.journal.now.items c.satisfy.new.journal.items c.requires.journal c.args.records.now.looks c.satisfy.new.records.looks)

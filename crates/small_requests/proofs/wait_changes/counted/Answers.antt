@@ -11,7 +11,7 @@ use Rattle.small_requests.specs.Values.{AreValuesAt}
 
 pub values_at-requires : goal.values_at-requires
 values_at-requires c =
-    let Q = c.args.shown.now.contents in
+    let Q = c.args.records.now.contents in
     let e = c.args.edit.now in
     let told = c.in_ok-touched.ensures in
     let touched = c.in_ok-touched.touched.items in
@@ -24,7 +24,7 @@ values_at-requires c =
 
 pub returns-clause-kept_then : goal.returns-clause-kept_then
 returns-clause-kept_then c =
-    let Q = c.args.shown.now.contents in
+    let Q = c.args.records.now.contents in
     let e = c.args.edit.now in
     let told = c.in_ok-touched.ensures in
     let touched = c.in_ok-touched.touched.items in
@@ -40,7 +40,7 @@ returns-clause-kept_then c =
 
 pub returns-clause-counted : goal.returns-clause-counted
 returns-clause-counted c =
-    let Q = c.args.shown.now.contents in
+    let Q = c.args.records.now.contents in
     let e = c.args.edit.now in
     let told = c.in_ok-touched.ensures in
     let touched = c.in_ok-touched.touched.items in
@@ -55,4 +55,4 @@ returns-clause-counted c =
       | inl one ↦ inl (subst (λ ps. Contains ps i) c.deref-2.ensures.value one)
       | inr other ↦ inr (subst (λ ps. Contains ps i) noted other)
     ] in
-    counted_with Q e wait_states new _ entries touched c.args.shown.now.looks c.cascade.new.shown.looks c.in_ok-cascade.ensures.counted (sym (leads_there values wait_states new leads)) each
+    counted_with Q e wait_states new _ entries touched c.args.records.now.looks c.cascade.new.records.looks c.in_ok-cascade.ensures.counted (sym (leads_there values wait_states new leads)) each

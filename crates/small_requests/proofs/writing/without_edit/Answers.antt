@@ -29,7 +29,7 @@ put_markings-requires c =
     let was = c.requires.1 in (
       with_facilities e.revision P,
       with_facilities_sound e.revision e.keys.items P was.edit.sound was.edit.sound_after,
-      differ_so c.args.shown.contents c.deref.result.now P e c.args.old c.deref.ensures.value was,
+      differ_so c.args.records.contents c.deref.result.now P e c.args.old c.deref.ensures.value was,
       were_so c.deref.result.now c.deref-2.result.now P e c.deref.ensures.value c.deref-2.ensures.value was.edit.marked,
     )
 
@@ -42,18 +42,18 @@ pub with_revision-requires-clause-has_place : goal.with_revision-requires-clause
 with_revision-requires-clause-has_place c =
     let e = c.args.edit.now in
     let was = c.requires.1 in
-    let back = operations_back c.args.shown.contents c.put_markings.result.contents c.deref.result.now c.deref-2.result.now c.put_markings.ensures.contents c.requires.0 e c.args.old c.deref.ensures.value c.deref-2.ensures.value was in
+    let back = operations_back c.args.records.contents c.put_markings.result.contents c.deref.result.now c.deref-2.result.now c.put_markings.ensures.contents c.requires.0 e c.args.old c.deref.ensures.value c.deref-2.ensures.value was in
     subst (λ (R : Contents). HasPlaceFor R c.args.old) (sym back) was.puts_back.has_place
 
 pub with_revision-requires-clause-sound : goal.with_revision-requires-clause-sound
 with_revision-requires-clause-sound c =
     let e = c.args.edit.now in
     let was = c.requires.1 in
-    let back = operations_back c.args.shown.contents c.put_markings.result.contents c.deref.result.now c.deref-2.result.now c.put_markings.ensures.contents c.requires.0 e c.args.old c.deref.ensures.value c.deref-2.ensures.value was in
+    let back = operations_back c.args.records.contents c.put_markings.result.contents c.deref.result.now c.deref-2.result.now c.put_markings.ensures.contents c.requires.0 e c.args.old c.deref.ensures.value c.deref-2.ensures.value was in
     subst IsSound (sym (ap (written [] c.args.old) back ∙ was.puts_back.back)) was.edit.sound
 
 pub returns-clause-contents : goal.returns-clause-contents
 returns-clause-contents c P was =
     let e = c.args.edit.now in
-    let back = operations_back c.args.shown.contents c.put_markings.result.contents c.deref.result.now c.deref-2.result.now c.put_markings.ensures.contents P e c.args.old c.deref.ensures.value c.deref-2.ensures.value was in
+    let back = operations_back c.args.records.contents c.put_markings.result.contents c.deref.result.now c.deref-2.result.now c.put_markings.ensures.contents P e c.args.old c.deref.ensures.value c.deref-2.ensures.value was in
     c.with_revision.ensures.contents ∙ ap (written [] c.args.old) back ∙ was.puts_back.back

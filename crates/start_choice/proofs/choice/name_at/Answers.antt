@@ -4,7 +4,7 @@ use Rattle.std.proofs.lemmas.Option.{same_Some, slice_get-get_or}
 use Rattle.plan_basics.specs.declared.keys.OpKey.{OpKey}
 use Rattle.status_rules.specs.declared.Mark.TheVariants.{Named}
 use Rattle.counted_records.specs.plan_status.proofs.LoadedRows.{row_found}
-use Rattle.counted_records.specs.plan_status.proofs.RowKeys.{row_shown}
+use Rattle.counted_records.specs.plan_status.proofs.RowKeys.{row_lent}
 use Rattle.plan_model.specs.Contents.{Contents, Operation}
 use Rattle.workstations.specs.Workstations.{Workstation}
 use Rattle.start_choice.specs.Shut.{AreShut}
@@ -17,17 +17,17 @@ use Rattle.start_choice.proofs.choice.name_at.Goals.{After-see, After-check_star
 
 -- what counts before
 abbrev before : After-see → Counted
-before c = counted c.args.shown.now c.args.at c.args.given.now c.args.holdings.now.held
+before c = counted c.args.records.now c.args.at c.args.given.now c.args.holdings.now.held
 
 -- the row that is seen is there
-found : (c : After-see) → get c.args.shown.now.contents.operations c.see.result.key.now ≡ Some c.see.result.operation.now
-found c = row_found c.args.shown.now.contents c.args.place c.see.result.key.now c.see.result.operation.now c.see.ensures.row
+found : (c : After-see) → get c.args.records.now.contents.operations c.see.result.key.now ≡ Some c.see.result.operation.now
+found c = row_found c.args.records.now.contents c.args.place c.see.result.key.now c.see.result.operation.now c.see.ensures.row
 
 found_beside : (c : After-see) → get c.see.result.uncounted.contents.now.operations c.see.result.key.now ≡ Some c.see.result.operation.now
 found_beside c = subst (λ (Q : Contents). get Q.operations c.see.result.key.now ≡ Some c.see.result.operation.now) (sym c.see.ensures.uncounted) (found c)
 
 -- and no other
-its_key : (c : After-see) (o : OpKey) (op : Operation) → slice_get (entries c.args.shown.now.contents.operations) c.args.place ≡ Some (o, op) → c.see.result.key.now ≡ o
+its_key : (c : After-see) (o : OpKey) (op : Operation) → slice_get (entries c.args.records.now.contents.operations) c.args.place ≡ Some (o, op) → c.see.result.key.now ≡ o
 its_key c o op at = ap (λ (row : OpKey × Operation). row.0) (same_Some (c.see.result.key.now, c.see.result.operation.now) (o, op) (sym c.see.ensures.row ∙ at))
 
 pub workstation_place_near-station-requires : goal.workstation_place_near-station-requires
@@ -38,7 +38,7 @@ check_start-requires c = found_beside (goal.at.check_start-requires c).After-see
 
 module _ (c : After-check_start) where
   -- the index of the operation's workstation
-  its_place : (ws : Workstation) × (slice_get (entries c.args.shown.now.contents.workstations) c.workstation_place_near-station.result ≡ Some (c.see.result.operation.now.workstation, ws))
+  its_place : (ws : Workstation) × (slice_get (entries c.args.records.now.contents.workstations) c.workstation_place_near-station.result ≡ Some (c.see.result.operation.now.workstation, ws))
   its_place =
       subst (λ (Q : Contents). (ws : Workstation) × (slice_get (entries Q.workstations) c.workstation_place_near-station.result ≡ Some (c.see.result.operation.now.workstation, ws)))
       c.see.ensures.uncounted c.workstation_place_near-station.ensures.at
@@ -101,11 +101,11 @@ returns-clause-answered c e op at =
 
 pub returns-clause-shut : goal.returns-clause-shut
 returns-clause-shut c =
-    let rows = entries c.args.shown.now.contents.workstations in
+    let rows = entries c.args.records.now.contents.workstations in
     let station = c.workstation_place_near-station.result in
     let w = c.index-workstations-station.result in
     let is = c.workstations.ensures.rows ∙ ap (λ (Q : Contents). entries Q.workstations) c.see.ensures.uncounted in
     let within : station < length c.workstations.result.now = omega (arith, c.workstation_place_near-station.ensures.within, ap length c.workstations.ensures.rows) in
     subst (λ (Q : Contents). AreShut (entries Q.workstations) c.args.at (set c.args.given.now station c.with_operation-taken.result) (set c.args.shut.now station c.is_shut.result)) (sym c.see.follows.holds-at-none.contents)
-    (told_one rows c.args.at c.args.given.now c.args.shut.now c.requires.shut station w (row_shown c.workstations.result.now rows is station w within c.index-workstations-station.is)
+    (told_one rows c.args.at c.args.given.now c.args.shut.now c.requires.shut station w (row_lent c.workstations.result.now rows is station w within c.index-workstations-station.is)
     c.with_operation-taken.result c.is_shut.result c.is_shut.ensures.0)

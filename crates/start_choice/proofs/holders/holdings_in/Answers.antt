@@ -3,7 +3,7 @@ use Rattle.std.proofs.Common.{◌≡◌, arith, sym, ap, subst, ◌∙◌, ◌�
 use Rattle.special_resources.specs.Holdings.{HoldingState}
 use Rattle.plan_model.specs.Contents.{Operation}
 use Rattle.counted_records.specs.plan_status.proofs.LoadedRows.{row_found}
-use Rattle.counted_records.specs.plan_status.proofs.RowKeys.{row_shown}
+use Rattle.counted_records.specs.plan_status.proofs.RowKeys.{row_lent}
 use Rattle.start_choice.specs.Takings.{HaveTaken}
 use Rattle.start_choice.proofs.HeldRows.{AreHeldAmong, none_held, row_holds_none, row_takes, rows_held}
 use Rattle.start_choice.proofs.holders.holdings_in.Goals as goal
@@ -11,7 +11,7 @@ use Rattle.start_choice.proofs.holders.holdings_in.Goals.{After-row-item, then-s
 
 -- the row that is gone through
 row : (c : After-row-item) → slice_get (entries c.args.contents.now.operations) c.loop-row.row-index ≡ Some c.row-item.result
-row c = row_shown c.operations-row-items.result.now _ c.operations-row-items.ensures.rows c.loop-row.row-index c.row-item.result c.loop-row-test.true c.row-item.is
+row c = row_lent c.operations-row-items.result.now _ c.operations-row-items.ensures.rows c.loop-row.row-index c.row-item.result c.loop-row-test.true c.row-item.is
 
 pub starts_are_known-requires : goal.starts_are_known-requires
 starts_are_known-requires c = (c.row-item.result.0, row_found c.args.contents.now c.loop-row.row-index c.row-item.result.0 c.row-item.result.1 (row c))

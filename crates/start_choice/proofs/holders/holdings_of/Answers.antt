@@ -9,7 +9,7 @@ use Rattle.counted_records.specs.plan_status.specs.declared.summaries.OperationS
 use Rattle.counted_records.specs.plan_drafts.proofs.RowPlaces.{row_at}
 use Rattle.plan_model.specs.Contents.{Contents, Operation}
 use Rattle.counted_records.specs.plan_status.proofs.Summarized.{summary_there}
-use Rattle.counted_records.specs.plan_status.proofs.RowKeys.{row_shown}
+use Rattle.counted_records.specs.plan_status.proofs.RowKeys.{row_lent}
 use Rattle.start_choice.specs.SummarizedTakings.{holder_count, may_hold}
 use Rattle.start_choice.proofs.SummarizedHolders.{holds_nothing, known_there}
 use Rattle.start_choice.proofs.HeldRows.{AreHeldAmong, none_held, row_passed_over, row_takes, rows_held}
@@ -18,14 +18,14 @@ use Rattle.start_choice.proofs.holders.holdings_of.Goals.{After-may_hold, then-m
 
 module _ (c : After-may_hold) where
   -- the row that is gone through
-  row : (z : OpKey × Operation) × (slice_get (entries c.args.shown.now.contents.operations) c.loop-place.place ≡ Some z)
-  row = row_at (entries c.args.shown.now.contents.operations) c.loop-place.place (omega (arith, c.loop-place-test.true, c.requires.size))
+  row : (z : OpKey × Operation) × (slice_get (entries c.args.records.now.contents.operations) c.loop-place.place ≡ Some z)
+  row = row_at (entries c.args.records.now.contents.operations) c.loop-place.place (omega (arith, c.loop-place-test.true, c.requires.size))
 
   -- its operation's summary
-  its : IsSummaryOf c.args.shown.now.contents row.0.1 c.index-summaries-place.result
+  its : IsSummaryOf c.args.records.now.contents row.0.1 c.index-summaries-place.result
   its =
-      summary_there c.args.shown.now.contents c.args.summaries.now c.requires c.loop-place.place row.0.0 row.0.1 c.index-summaries-place.result row.1
-      (row_shown c.args.summaries.now c.args.summaries.now refl c.loop-place.place c.index-summaries-place.result c.loop-place-test.true c.index-summaries-place.is)
+      summary_there c.args.records.now.contents c.args.summaries.now c.requires c.loop-place.place row.0.0 row.0.1 c.index-summaries-place.result row.1
+      (row_lent c.args.summaries.now c.args.summaries.now refl c.loop-place.place c.index-summaries-place.result c.loop-place-test.true c.index-summaries-place.is)
 
 pub take_at-requires : goal.take_at-requires
 take_at-requires c =
@@ -36,13 +36,13 @@ loop-place-init c = record {
   contents = refl;
   fewest = omega arith;
   most = omega arith;
-  held = subst (λ (z : HoldingState). AreHeldAmong c.args.shown.now.contents 0 z.held) (sym c.new-holdings.ensures) (none_held c.args.shown.now.contents);
+  held = subst (λ (z : HoldingState). AreHeldAmong c.args.records.now.contents 0 z.held) (sym c.new-holdings.ensures) (none_held c.args.records.now.contents);
 }
 
 pub loop-place-preserved : goal.loop-place-preserved
 loop-place-preserved c =
     let a : After-may_hold = (goal.at.loop-place-preserved c).After-may_hold in
-    let P = c.args.shown.now.contents in
+    let P = c.args.records.now.contents in
     let summaries = c.args.summaries.now in
     let i = c.loop-place.place in
     let lt = c.loop-place-test.true in
@@ -57,7 +57,7 @@ loop-place-preserved c =
           let more = count_by_more_yes may_hold summaries i b lt (ap may_hold (sym c.index-summaries-place.is) ∙ yes) in
           let at = ap (λ (Q : Contents). slice_get (entries Q.operations) i) invariant.contents ∙ (row a).1 in
           let taken = w.in_ok-take_at.ensures.taken o op at in
-          rw (w.holdings-is, w.shown-is)
+          rw (w.holdings-is, w.records-is)
           record {
             contents = w.in_ok-take_at.ensures.contents ∙ invariant.contents;
             fewest = omega (arith, invariant.fewest, w.in_ok-take_at.ensures.fewest);
@@ -67,7 +67,7 @@ loop-place-preserved c =
       | else-may_hold w ↦
           let no = sym c.may_hold.ensures ∙ w.if-may_hold.false in
           let same = count_by_more_no may_hold summaries i b lt (ap may_hold (sym c.index-summaries-place.is) ∙ no) in
-          rw (w.holdings-is, w.shown-is)
+          rw (w.holdings-is, w.records-is)
           record {
             contents = invariant.contents;
             fewest = invariant.fewest;
@@ -78,7 +78,7 @@ loop-place-preserved c =
 
 pub returns-clause-held : goal.returns-clause-held
 returns-clause-held c =
-    let P = c.args.shown.now.contents in
+    let P = c.args.records.now.contents in
     let past : length (entries P.operations) ≤ c.loop-place.place = omega (arith, c.loop-place-test.false, c.requires.size) in
     rows_held P c.loop-place.place c.loop-place.holdings.held past c.loop-place.invariant.held
 

@@ -5,7 +5,7 @@ use Rattle.std.proofs.lemmas.Option.{same_Some, slice_get_within, some_pair_part
 use Rattle.plan_basics.specs.Keys.{Name}
 use Rattle.counted_records.specs.plan_status.proofs.Summarized.{summary_there}
 use Rattle.counted_records.specs.plan_status.proofs.LoadedRows.{row_found}
-use Rattle.counted_records.specs.plan_status.proofs.RowKeys.{row_of_key, row_shown}
+use Rattle.counted_records.specs.plan_status.proofs.RowKeys.{row_of_key, row_lent}
 use Rattle.counted_records.specs.plan_status.specs.Summaries.{IsSummaryOf}
 use Rattle.plan_model.specs.Contents.{Operation}
 use Rattle.workstations.specs.Workstations.{Workstation}
@@ -33,7 +33,7 @@ module _ (c : After-index-summaries-place) where
   its : IsSummaryOf c.args.uncounted.now.contents.now row.0 c.index-summaries-place.result
   its =
       summary_there c.args.uncounted.now.contents.now c.args.summaries.now c.requires.summaries c.args.place c.operation_key-key.result.now row.0 c.index-summaries-place.result row.1
-      (row_shown c.args.summaries.now c.args.summaries.now refl c.args.place c.index-summaries-place.result c.requires.within c.index-summaries-place.is)
+      (row_lent c.args.summaries.now c.args.summaries.now refl c.args.place c.index-summaries-place.result c.requires.within c.index-summaries-place.is)
 
   -- and the row of its workstation
   station : (ws : Workstation) × (slice_get (entries c.args.uncounted.now.contents.now.workstations) c.index-summaries-place.result.station ≡ Some (row.0.workstation, ws))
@@ -65,6 +65,6 @@ returns-clause-entry c =
     let start = c.requires.latest.each c.args.place key op c.of.result (row a).1 c.of.ensures in
     let ws = c.index-workstations-summary.result in
     let lt : b.station < length c.workstations.result.now = omega (arith, within a, ap length c.workstations.ensures.rows) in
-    let at = row_shown c.workstations.result.now (entries P.workstations) c.workstations.ensures.rows b.station ws lt c.index-workstations-summary.is in
+    let at = row_lent c.workstations.result.now (entries P.workstations) c.workstations.ensures.rows b.station ws lt c.index-workstations-summary.is in
     let name : c.name.result ≡ op.workstation = c.name.ensures ∙ ap (λ (z : Name × Workstation). z.0) (same_Some ws (op.workstation, (station a).0) (sym at ∙ (station a).1)) in
     has_entry P key op c.of.result b.station c.args.place (row_found P c.args.place key op (row a).1) refl latest is.duration c.priority_of.ensures name is.attribute is.station start

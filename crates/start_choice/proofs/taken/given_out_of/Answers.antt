@@ -4,7 +4,7 @@ use Rattle.std.proofs.lemmas.List.{take_all}
 use Rattle.std.proofs.lemmas.Option.{slice_get_within}
 use Rattle.plan_basics.specs.declared.keys.OpKey.{OpKey}
 use Rattle.counted_records.specs.plan_status.proofs.Summarized.{summary_there}
-use Rattle.counted_records.specs.plan_status.proofs.RowKeys.{row_of_key, row_shown}
+use Rattle.counted_records.specs.plan_status.proofs.RowKeys.{row_of_key, row_lent}
 use Rattle.counted_records.specs.plan_status.specs.Summaries.{IsSummaryOf}
 use Rattle.counted_records.specs.plan_drafts.proofs.RowPlaces.{row_at}
 use Rattle.plan_model.specs.Contents.{Operation}
@@ -25,7 +25,7 @@ module _ (c : After-summary-item) where
   its : IsSummaryOf c.args.uncounted.now.contents.now row.0.1 c.summary-item.result
   its =
       summary_there c.args.uncounted.now.contents.now c.args.summaries.now c.requires c.loop-summary.summary-index row.0.0 row.0.1 c.summary-item.result row.1
-      (row_shown c.args.summaries.now c.args.summaries.now refl c.loop-summary.summary-index c.summary-item.result c.loop-summary-test.true c.summary-item.is)
+      (row_lent c.args.summaries.now c.args.summaries.now refl c.loop-summary.summary-index c.summary-item.result c.loop-summary-test.true c.summary-item.is)
 
   -- and the row of its workstation
   station : (ws : Workstation) × (slice_get (entries c.args.uncounted.now.contents.now.workstations) c.summary-item.result.station ≡ Some (row.0.1.workstation, ws))

@@ -1,6 +1,6 @@
 use Rattle.std.proofs.Common.{◌≡◌, ◌∙◌, rules, Err}
 use Rattle.plan_basics.specs.Watched.{inner_of}
-use Rattle.desk_replies.specs.request_json.specs.declared.WireFault.TheVariants as fault
+use Rattle.request_json.specs.declared.WireFault.TheVariants as fault
 use Rattle.tracker_http.proofs.Ended.{keeps_itself, ends_sent, ends_unsent}
 use Rattle.tracker_http.proofs.exchange.serve_one.Goals as goal
 

@@ -30,9 +30,9 @@ new-requires c =
     let each : All (λ (e : ReadyEntry). IsInPlan s.contents.now e.key.op) (on_workstation w listed) = λ k d lt.
     let es = on_workstation w listed in
     let e = slice_index_or es k d in
-    let its = of_listed s c.of.ensures.shown listed ready w e (k, lt, get_or_from_slice_get es k e e (slice_get-get_or es k d lt)) in
+    let its = of_listed s c.of.ensures.source listed ready w e (k, lt, get_or_from_slice_get es k e e (slice_get-get_or es k d lt)) in
     (its.0, its.1, tt) in
-    (c.of.ensures.shown, subst (All (λ (e : ReadyEntry). IsInPlan s.contents.now e.key.op)) (sym c.of_ws-entries.ensures) each)
+    (c.of.ensures.source, subst (All (λ (e : ReadyEntry). IsInPlan s.contents.now e.key.op)) (sym c.of_ws-entries.ensures) each)
 
 pub returns-clause-some : goal.returns-clause-some
 returns-clause-some c =
@@ -49,4 +49,4 @@ returns-clause-views c =
     let same = ap (λ x. (plan_held c.self.inside.clock x).contents) c.in_ok-loaded.ensures.value ∙ ap (λ (s : PlanState). s.plan.contents) c.self.view_is in
     let ready = subst (λ (P : Contents). AreReadyEntries P listed) (sym c.of.ensures.contents) c.ready.ensures in
     subst (λ (P : Contents). AreReadyViews P w c.new.result) (c.of.ensures.contents ∙ same)
-    (subst (AreReadyViews s.contents.now w) (sym (c.new.ensures ∙ ap (ready_views s) c.of_ws-entries.ensures)) (are_ready_views s c.of.ensures.shown listed ready w))
+    (subst (AreReadyViews s.contents.now w) (sym (c.new.ensures ∙ ap (ready_views s) c.of_ws-entries.ensures)) (are_ready_views s c.of.ensures.source listed ready w))

@@ -7,11 +7,11 @@ use Rattle.plan_core.specs.Views.{ready_views}
 use Rattle.plan_core.proofs.ready_views.ReadyIterator.next.Goals as goal
 
 pub invariant_of-self-2 : goal.invariant_of-self-2
-invariant_of-self-2 c = (c.self.invariant.0, All-rest (λ e. IsInPlan c.self.inside.shown.contents.now e.key.op) c.in_ok-entry.entry.now c.next.new.self c.self.inside.entries c.in_ok-entry.ensures.steps c.self.invariant.1)
+invariant_of-self-2 c = (c.self.invariant.0, All-rest (λ e. IsInPlan c.self.inside.source.contents.now e.key.op) c.in_ok-entry.entry.now c.next.new.self c.self.inside.entries c.in_ok-entry.ensures.steps c.self.invariant.1)
 
-rest_is : (c : goal.After-op_view) → c.args.self.now ≡ c.op_view.result ∷ ready_views c.self.inside.shown c.next.new.self
+rest_is : (c : goal.After-op_view) → c.args.self.now ≡ c.op_view.result ∷ ready_views c.self.inside.source c.next.new.self
 rest_is c =
-    let s = c.self.inside.shown in
+    let s = c.self.inside.source in
     let place = c.known_operation_place-row.result in
     let at = c.known_operation_place-row.ensures.at in
     sym c.self.view_is ∙ one_ready s c.self.invariant.0 c.in_ok-entry.ensures.steps (view_is s c.self.invariant.0 place c.in_ok-entry.entry.now.key.op at.0 c.op_view.result at.1 c.op_view.ensures)

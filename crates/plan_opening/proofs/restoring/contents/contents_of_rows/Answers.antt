@@ -1,7 +1,7 @@
 use Rattle.std.proofs.Common.{◌∙◌, sym, subst, ap, true≢false, All, Some}
 use Rattle.plan_items.specs.Items.{IsItem}
 use Rattle.plan_drafts.specs.Records.{AreItemsOf}
-use Rattle.plan_drafts.proofs.Unique.{one_plan_of_items}
+use Rattle.plan_denotation.proofs.Unique.{one_plan_of_items}
 use Rattle.plan_opening.specs.Restoring.{reported}
 use Rattle.plan_opening.proofs.Bare.{bare}
 use Rattle.plan_opening.proofs.Restored.{restored}

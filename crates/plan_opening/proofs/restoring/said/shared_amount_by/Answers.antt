@@ -1,7 +1,7 @@
 use Rattle.std.proofs.Common.{refl, sym, ap, ◌∙◌}
 use Rattle.std.specs.Option.{unwrap_or}
 use Rattle.std.proofs.lemmas.Option.{get_or_from_slice_get}
-use Rattle.plan_drafts.proofs.OwnNeeds.{need_cmp_total, need_cmp-IsAntisymmetric}
+use Rattle.plan_denotation.proofs.OwnNeeds.{need_cmp_total, need_cmp-IsAntisymmetric}
 use Rattle.plan_drafts.proofs.RowPlaces.{get_at}
 use Rattle.plan_drafts.specs.PlanItems.{need_cmp}
 use Rattle.plan_opening.proofs.restoring.said.shared_amount_by.Goals as goal

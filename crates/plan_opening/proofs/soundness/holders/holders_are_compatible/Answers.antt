@@ -1,6 +1,6 @@
 use Rattle.std.proofs.Common.{◌≡◌, ◌≤◌, refl, sym, ap, ◌∙◌, arith, true≢false, length, slice_get, Some}
 use Rattle.std.specs.FinMap.{entries}
-use Rattle.plan_rows.specs.plan_status.proofs.RowKeys.{row_shown}
+use Rattle.plan_rows.specs.plan_status.proofs.RowKeys.{row_lent}
 use Rattle.plan_basics.specs.Keys.{name_cmp_total, name_cmp-IsAntisymmetric}
 use Rattle.plan_opening.specs.Laws.{HasCompatibleHolders}
 use Rattle.plan_opening.proofs.EachRow.{so_of_all, so_of_none, so_of_one_more}
@@ -10,7 +10,7 @@ use Rattle.plan_opening.proofs.soundness.holders.holders_are_compatible.Goals.{A
 
 -- the resource that is gone through
 row : (c : After-are_compatible) → slice_get (entries c.args.contents.now.resources) c.loop-resource.resource-index ≡ Some c.resource-item.result
-row c = row_shown c.resources-resource-items.result.now _ c.resources-resource-items.ensures.rows c.loop-resource.resource-index c.resource-item.result c.loop-resource-test.true c.resource-item.is
+row c = row_lent c.resources-resource-items.result.now _ c.resources-resource-items.ensures.rows c.loop-resource.resource-index c.resource-item.result c.loop-resource-test.true c.resource-item.is
 
 pub loop-resource-init : goal.loop-resource-init
 loop-resource-init c = so_of_none (λ r stock. HasCompatibleHolders c.args.contents.now r) (entries c.args.contents.now.resources)

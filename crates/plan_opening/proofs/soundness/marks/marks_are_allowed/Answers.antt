@@ -1,7 +1,7 @@
 use Rattle.std.proofs.Common.{◌≡◌, ◌≤◌, refl, sym, ap, ◌∙◌, arith, true≢false, length, slice_get, Some}
 use Rattle.std.specs.FinMap.{entries}
 use Rattle.plan_rows.specs.plan_status.proofs.LoadedRows.{row_found}
-use Rattle.plan_rows.specs.plan_status.proofs.RowKeys.{row_shown}
+use Rattle.plan_rows.specs.plan_status.proofs.RowKeys.{row_lent}
 use Rattle.plan_basics.specs.Keys.{operation_cmp_total, operation_cmp-IsAntisymmetric}
 use Rattle.plan_opening.specs.Laws.{HasMarkAllowed}
 use Rattle.plan_opening.proofs.EachRow.{so_of_all, so_of_none, so_of_one_more}
@@ -10,7 +10,7 @@ use Rattle.plan_opening.proofs.soundness.marks.marks_are_allowed.Goals.{After-ro
 
 -- the row that is gone through
 row : (c : After-row-item) → slice_get (entries c.args.contents.now.operations) c.loop-row.row-index ≡ Some c.row-item.result
-row c = row_shown c.operations-row-items.result.now _ c.operations-row-items.ensures.rows c.loop-row.row-index c.row-item.result c.loop-row-test.true c.row-item.is
+row c = row_lent c.operations-row-items.result.now _ c.operations-row-items.ensures.rows c.loop-row.row-index c.row-item.result c.loop-row-test.true c.row-item.is
 
 pub has_mark_allowed-requires : goal.has_mark_allowed-requires
 has_mark_allowed-requires c = (c.row-item.result.0, row_found c.args.contents.now c.loop-row.row-index c.row-item.result.0 c.row-item.result.1 (row c))

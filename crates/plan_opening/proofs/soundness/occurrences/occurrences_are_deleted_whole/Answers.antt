@@ -1,16 +1,16 @@
 use Rattle.std.proofs.Common.{◌≡◌, ◌≤◌, ◌-◌, refl, sym, ap, ◌∙◌, arith, true≢false, length, slice_get, Some}
 use Rattle.std.specs.FinMap.{entries}
-use Rattle.plan_rows.specs.plan_status.proofs.RowKeys.{row_shown}
+use Rattle.plan_rows.specs.plan_status.proofs.RowKeys.{row_lent}
 use Rattle.plan_opening.proofs.Neighbours.{alike_by_whole, alike_first, alike_more, whole}
 use Rattle.plan_opening.proofs.soundness.occurrences.occurrences_are_deleted_whole.Goals as goal
 use Rattle.plan_opening.proofs.soundness.occurrences.occurrences_are_deleted_whole.Goals.{After-are_deleted_alike}
 
 -- the two rows that are compared
 before_it : (c : After-are_deleted_alike) → slice_get (entries c.args.contents.now.operations) (c.loop-i.i - 1) ≡ Some c.index-rows-i.result
-before_it c = row_shown c.operations-rows.result.now _ c.operations-rows.ensures.rows (c.loop-i.i - 1) c.index-rows-i.result (omega (arith, c.loop-i-test.true)) c.index-rows-i.is
+before_it c = row_lent c.operations-rows.result.now _ c.operations-rows.ensures.rows (c.loop-i.i - 1) c.index-rows-i.result (omega (arith, c.loop-i-test.true)) c.index-rows-i.is
 
 it : (c : After-are_deleted_alike) → slice_get (entries c.args.contents.now.operations) c.loop-i.i ≡ Some c.index-rows-i-in-loop-i.result
-it c = row_shown c.operations-rows.result.now _ c.operations-rows.ensures.rows c.loop-i.i c.index-rows-i-in-loop-i.result c.loop-i-test.true c.index-rows-i-in-loop-i.is
+it c = row_lent c.operations-rows.result.now _ c.operations-rows.ensures.rows c.loop-i.i c.index-rows-i-in-loop-i.result c.loop-i-test.true c.index-rows-i-in-loop-i.is
 
 pub loop-i-init : goal.loop-i-init
 loop-i-init c = alike_first (entries c.args.contents.now.operations)

@@ -1,4 +1,4 @@
-use Rattle.plan_rows.proofs.ShownPlaces.{rows_alike}
+use Rattle.plan_rows.proofs.KeyedRows.{rows_alike}
 use Rattle.plan_rows.proofs.all_rows.AllRowsTwoTables.is_alike.Goals as goal
 
 pub returns : goal.returns

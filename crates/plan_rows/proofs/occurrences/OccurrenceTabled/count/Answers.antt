@@ -3,9 +3,9 @@ use Rattle.std.proofs.lemmas.List.{length-map}
 use Rattle.std.specs.FinMap.{entries}
 use Rattle.plan_basics.specs.declared.keys.OccKey.{OccKey}
 use Rattle.plan_model.specs.declared.Occurrence.{Occurrence}
-use Rattle.plan_rows.proofs.ShownRows.{occurrence_keys}
+use Rattle.plan_rows.proofs.SourceRows.{occurrence_keys}
 use Rattle.plan_rows.proofs.occurrences.OccurrenceTabled.count.Goals as goal
-use Rattle.plan_rows.specs.Shown.{source_of}
+use Rattle.plan_rows.specs.Sources.{source_of}
 
 pub returns : goal.returns
 returns c =

@@ -1,10 +1,10 @@
 use Rattle.std.proofs.lemmas.Option.{slice_get_within}
 use Rattle.std.specs.Map.{keys_of}
-use Rattle.plan_rows.proofs.ShownPlaces.{rows_alike}
-use Rattle.plan_rows.proofs.ShownRows.{occurrence_within}
+use Rattle.plan_rows.proofs.KeyedRows.{rows_alike}
+use Rattle.plan_rows.proofs.SourceRows.{occurrence_within}
 use Rattle.plan_rows.proofs.occurrences.OccurrenceTabled.is_alike.Goals as goal
 use Rattle.plan_rows.specs.Rows.{keyed_occurrences, rows_of}
-use Rattle.plan_rows.specs.Shown.{source_of}
+use Rattle.plan_rows.specs.Sources.{source_of}
 
 pub source_row-requires-clause-within : goal.source_row-requires-clause-within
 source_row-requires-clause-within c =

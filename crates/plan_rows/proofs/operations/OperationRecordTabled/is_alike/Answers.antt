@@ -1,10 +1,10 @@
 use Rattle.std.proofs.lemmas.Option.{slice_get_within}
 use Rattle.std.specs.Map.{keys_of}
 use Rattle.plan_rows.proofs.KeptOperations.{rows_by_known}
-use Rattle.plan_rows.proofs.ShownRows.{operation_within}
+use Rattle.plan_rows.proofs.SourceRows.{operation_within}
 use Rattle.plan_rows.proofs.operations.OperationRecordTabled.is_alike.Goals as goal
 use Rattle.plan_rows.specs.Rows.{keyed_operations}
-use Rattle.plan_rows.specs.Shown.{source_of}
+use Rattle.plan_rows.specs.Sources.{source_of}
 
 pub are_known_alike-requires-clause-before : goal.are_known_alike-requires-clause-before
 are_known_alike-requires-clause-before c =

@@ -6,8 +6,8 @@ use Rattle.plan_model.specs.Contents.{Contents}
 use Rattle.plan_model.specs.Valid.{IsSound}
 use Rattle.derived_figures.specs.plan_status.specs.Standings.{AreStandings, AreTallies}
 
-pub returns-clause-shown : goal.returns-clause-shown
-returns-clause-shown c =
+pub returns-clause-source : goal.returns-clause-source
+returns-clause-source c =
     let same : c.args.loaded.now ≡ c.rows.result.now = sym (c.rows.ensures.contents ∙ c.contents.ensures.contents) in
     record {
       sound = subst IsSound (sym c.rows.ensures.contents) c.rows.ensures.sound;

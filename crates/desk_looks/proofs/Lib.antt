@@ -1,2 +1,0 @@
-mod Clock
-mod Owed

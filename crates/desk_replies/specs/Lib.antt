@@ -1,2 +1,0 @@
-pub use Rattle.request_json
-pub mod Told

@@ -1,0 +1,126 @@
+-- What a look is shown of a desk.
+use Rattle.std.specs.Prelude.{◌≡◌, ◌⊎◌, Bool, if◌then◌else◌, ℕ, List, Option, Some, None, unwrap_or}
+use Rattle.board_pages.specs.Boards.{IsBoard}
+use Rattle.board_pages.specs.forecast_texts.specs.Texts.{IsForecastText}
+use Rattle.http_messages.specs.Replies.{page_reply, reply, text_reply}
+use Rattle.http_messages.specs.declared.looks.Look.{Look}
+use Rattle.http_messages.specs.declared.looks.Look.TheVariants as look
+use Rattle.http_messages.specs.declared.looks.Page.{Page}
+use Rattle.http_messages.specs.declared.looks.Page.TheVariants as page
+use Rattle.http_messages.specs.declared.statuses.Status.TheVariants as status
+use Rattle.plan_basics.specs.KeyTexts.{IsOccurrenceText, IsOperationText}
+use Rattle.plan_basics.specs.Keys.{IsOccurrenceKey, IsOperationKey, Name}
+use Rattle.plan_basics.specs.Names.{IsName}
+use Rattle.plan_basics.specs.declared.Refusal.{Refusal}
+use Rattle.plan_basics.specs.declared.Refusal.TheVariants as refusal
+use Rattle.plan_basics.specs.declared.keys.OccKey.{OccKey}
+use Rattle.plan_basics.specs.declared.keys.OpKey.{OpKey}
+use Rattle.plan_reports.specs.desk_tables.specs.Desk.{DeskState}
+use Rattle.plan_reports.specs.desk_tables.specs.plan_model.specs.Plan.{Plan}
+use Rattle.plan_reports.specs.desk_tables.specs.plan_records.specs.declared.Reply.TheVariants as answer
+use Rattle.plan_reports.specs.plan_shows.specs.Shows.{IsShow}
+use Rattle.plan_reports.specs.plan_shows.specs.Values.{health_data, started_refusal_of, IsStartedText}
+use Rattle.plan_reports.specs.plan_shows.specs.declared.shows.Show.{Show}
+use Rattle.plan_reports.specs.plan_shows.specs.declared.shows.Show.TheVariants as show
+use Rattle.plan_reports.specs.Reports.{desk_show_refusal_of, ready_refusal_of, refusal_of, why_refusal_of, IsErrorReport, IsLateReport, IsOccurrenceReport, IsReadyReport, IsWhyReport}
+use Rattle.serde_json.specs.Written.{compact_text}
+use Rattle.tracker_http.specs.Told.{reply_of}
+use Rattle.tracker_http.specs.declared.told.Told.TheVariants as told
+
+-- the reply that tells a refusal
+abbrev pub refused_reply : Refusal → List ℕ
+refused_reply r = reply_of (told.Answer (answer.Refused r))
+
+-- the reply that tells a value by its text
+abbrev pub value_reply : List ℕ → List ℕ
+value_reply text = reply status.Success text
+
+-- the refusal that is owed is told; where none is, such a text is, in a reply of this form
+abbrev pub ShowsIn : (List ℕ → List ℕ) → Option Refusal → (List ℕ → Type 0) → List ℕ → Type 0
+ShowsIn form (Some r) IsText output = output ≡ refused_reply r
+ShowsIn form None IsText output = (text : List ℕ) × IsText text × (output ≡ form text)
+
+-- a text for people
+abbrev pub ShowsText : Option Refusal → (List ℕ → Type 0) → List ℕ → Type 0
+ShowsText = ShowsIn text_reply
+
+-- the text of a value
+abbrev pub ShowsValue : Option Refusal → (List ℕ → Type 0) → List ℕ → Type 0
+ShowsValue = ShowsIn value_reply
+
+-- what a desk owes: that it is to be opened again comes first
+abbrev pub owed_by : Bool → Option Refusal → Option Refusal
+owed_by usable owed = if usable then owed else Some refusal.Reopen
+
+-- the refusal that a desk owes to whoever asks for something that no plan has
+abbrev pub refusal_or : Refusal → Bool → Plan → Refusal
+refusal_or r usable P = unwrap_or (refusal_of usable P) r
+
+-- the bytes are the text of this key
+abbrev pub NamesOccurrence : List ℕ → OccKey → Type 0
+NamesOccurrence bytes c = IsOccurrenceKey c × IsOccurrenceText bytes c
+
+abbrev pub NamesOperation : List ℕ → OpKey → Type 0
+NamesOperation bytes o = IsOperationKey o × IsOperationText bytes o
+
+-- a show of the desk
+abbrev pub ShowsShow : {S : Type 0} → Show → DeskState S → List ℕ → Type 0
+ShowsShow s d output = ShowsText (desk_show_refusal_of d.is_usable s d.plan) (IsShow s d.plan d.receipts) output
+
+-- what is started, on this workstation or on any
+abbrev pub ShowsStarted : {S : Type 0} → Option Name → DeskState S → List ℕ → Type 0
+ShowsStarted w d output = ShowsValue (owed_by d.is_usable (started_refusal_of w d.plan)) (IsStartedText w d.plan) output
+
+-- the text of a forecast from the plan's clock on, by what is known of starts
+abbrev pub ShowsForecast : {S : Type 0} → (OpKey → Option ℕ) → DeskState S → List ℕ → Type 0
+ShowsForecast starts d output = ShowsText (refusal_of d.is_usable d.plan) (IsForecastText d.plan starts d.plan.clock None) output
+
+-- the board's page of it
+abbrev pub ShowsBoard : {S : Type 0} → (OpKey → Option ℕ) → DeskState S → List ℕ → Type 0
+ShowsBoard starts d output = ShowsIn page_reply (refusal_of d.is_usable d.plan) (IsBoard d.plan starts d.plan.clock None) output
+
+-- what is shown under one path alone; the starts that are known are for forecasts
+abbrev pub ShowsPage : {S : Type 0} → (OpKey → Option ℕ) → Page → DeskState S → List ℕ → Type 0
+ShowsPage starts page.Occurrences d output = ShowsText (refusal_of d.is_usable d.plan) (IsOccurrenceReport d.plan) output
+ShowsPage starts page.Errors d output = ShowsText (refusal_of d.is_usable d.plan) (IsErrorReport d.plan) output
+ShowsPage starts page.Late d output = ShowsText (refusal_of d.is_usable d.plan) (IsLateReport d.plan) output
+ShowsPage starts page.ShowStarted d output = ShowsShow show.Started d output
+ShowsPage starts page.ShowResources d output = ShowsShow show.Resources d output
+ShowsPage starts page.ShowWorkstations d output = ShowsShow show.Workstations d output
+ShowsPage starts page.ShowTrackers d output = ShowsShow show.Trackers d output
+ShowsPage starts page.Started d output = ShowsStarted None d output
+ShowsPage starts page.Health d output = ShowsValue (owed_by d.is_usable None) (λ text. text ≡ compact_text (health_data d.plan)) output
+ShowsPage starts page.Forecast d output = ShowsForecast starts d output
+ShowsPage starts page.Board d output = ShowsBoard starts d output
+
+-- the report of what is ready on the workstation of this name; one that is no name is no plan's
+abbrev pub ShowsReady : {S : Type 0} → List ℕ → DeskState S → List ℕ → Type 0
+ShowsReady name d output =
+    (IsName 4 name × ShowsText (ready_refusal_of d.is_usable d.plan name) (IsReadyReport d.plan name) output)
+    ⊎ ((¬ IsName 4 name) × (output ≡ refused_reply (refusal_or refusal.UnknownWorkstation d.is_usable d.plan)))
+
+-- so, what is started on it
+abbrev pub ShowsStartedOn : {S : Type 0} → List ℕ → DeskState S → List ℕ → Type 0
+ShowsStartedOn name d output =
+    (IsName 4 name × ShowsStarted (Some name) d output)
+    ⊎ ((¬ IsName 4 name) × (output ≡ refused_reply (refusal_or refusal.UnknownWorkstation d.is_usable d.plan)))
+
+-- why the operation of this key doesn't go on at the plan's clock; what is no key is no plan's
+abbrev pub ShowsWhy : {S : Type 0} → List ℕ → DeskState S → List ℕ → Type 0
+ShowsWhy key d output =
+    ((o : OpKey) × NamesOperation key o × ShowsText (why_refusal_of d.is_usable d.plan o) (IsWhyReport d.plan o d.plan.clock) output)
+    ⊎ (((o : OpKey) → ¬ NamesOperation key o) × (output ≡ refused_reply (refusal_or refusal.UnknownOperation d.is_usable d.plan)))
+
+-- so, the operations of an occurrence
+abbrev pub ShowsOperations : {S : Type 0} → List ℕ → DeskState S → List ℕ → Type 0
+ShowsOperations key d output =
+    ((c : OccKey) × NamesOccurrence key c × ShowsShow (show.Operations c) d output)
+    ⊎ (((c : OccKey) → ¬ NamesOccurrence key c) × (output ≡ refused_reply (refusal_or refusal.UnknownOccurrence d.is_usable d.plan)))
+
+-- what a look is shown
+abbrev pub Shows : {S : Type 0} → (OpKey → Option ℕ) → Look → DeskState S → List ℕ → Type 0
+Shows starts (look.Page p) d output = ShowsPage starts p d output
+Shows starts (look.Ready name) d output = ShowsReady name.items d output
+Shows starts (look.Why key) d output = ShowsWhy key.items d output
+Shows starts (look.ShowOperations key) d output = ShowsOperations key.items d output
+Shows starts (look.StartedOn name) d output = ShowsStartedOn name.items d output

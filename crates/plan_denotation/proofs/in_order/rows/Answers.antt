@@ -1,0 +1,27 @@
+use Rattle.std.proofs.Common.{sym, subst, ap, ap₂, ◌∙◌, arith, map, ◌++◌, ◌∷◌, []}
+use Rattle.std.proofs.lemmas.List.{map_more, take_all}
+use Rattle.std.proofs.lemmas.List.Elements.{AllWithin-more, at_read}
+use Rattle.plan_drafts.specs.PlanItems.{BelongsTo, row_of}
+use Rattle.plan_denotation.proofs.in_order.rows.Goals as goal
+
+pub loop-said-preserved : goal.loop-said-preserved
+loop-said-preserved c =
+    let said = c.args.said.now in
+    let i = c.loop-said.said-index in
+    let row = row_of c.args.occurrences.now c.args.needs.now in
+    let made = rw c.in-Some.is at c.row.ensures in (
+      AllWithin-more (BelongsTo c.args.occurrences.now c.args.needs.now) said 0 i c.loop-said.invariant.0
+          (at_read said (BelongsTo c.args.occurrences.now c.args.needs.now) i c.said-item.result (omega arith) c.said-item.is made.0),
+      c.in_ok-push.ensures.items ∙ ap₂ (λ rs r. rs ++ r ∷ []) c.loop-said.invariant.1 (made.1 ∙ ap row c.said-item.is) ∙ sym (map_more row said i c.said-item.result (omega arith)),
+    )
+
+pub returns-in_default : goal.returns-in_default
+returns-in_default c = λ all.
+    let none = rw c.in_default.is at c.row.ensures in
+    none (subst (BelongsTo c.args.occurrences.now c.args.needs.now) (sym c.said-item.is) (all c.loop-said.said-index c.said-item.result (omega arith)))
+
+pub returns : goal.returns
+returns c = (
+  λ k d lt. c.loop-said.invariant.0 k d (omega arith) (omega arith),
+  c.loop-said.invariant.1 ∙ ap (map (row_of c.args.occurrences.now c.args.needs.now)) (take_all c.loop-said.said-index c.args.said.now (omega arith)),
+)

@@ -1,0 +1,11 @@
+use Rattle.std.proofs.Common.{rules, tests}
+use Rattle.std.proofs.lemmas.Iterator.{YieldsList-from_slice, cases_from_all}
+use Rattle.std.specs.Map.{keys_of}
+use Rattle.plan_drafts.specs.PlanItems.{IsNeedIn}
+use Rattle.plan_drafts.proofs.Lists.{all_told}
+use Rattle.plan_denotation.proofs.needs.are_needs_in.Goals as goal
+
+pub returns : goal.returns
+returns c =
+    all_told (IsNeedIn c.args.keys.now (keys_of c.args.resources.now)) c.args.needs.now c.all.result
+    (cases_from_all _ _ _ (IsNeedIn c.args.keys.now (keys_of c.args.resources.now)) (λ x. ¬ IsNeedIn c.args.keys.now (keys_of c.args.resources.now) x) c.all.ensures.ran (YieldsList-from_slice c.args.needs.now cc) (λ x q k. search (rules, tests)) (λ x q k. search (rules, tests)))

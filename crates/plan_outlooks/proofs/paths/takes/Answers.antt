@@ -1,0 +1,6 @@
+use Rattle.std.proofs.Common.{◌∙◌}
+use Rattle.plan_model.proofs.Taking.{takes_where_known}
+use Rattle.plan_outlooks.proofs.paths.takes.Goals as goal
+
+pub returns : goal.returns
+returns c = c.knows_starts.ensures ∙ takes_where_known c.args.attribute
