@@ -3,7 +3,6 @@ keys go there as base64, its numbers as texts."""
 import base64
 import hashlib
 import json
-import time
 
 from common import NoAnswer, exchange, follow
 
@@ -13,6 +12,14 @@ SECONDS = 10            # for a reply of a member
 
 class Away(Exception):
     """The etcd, or enough of its members, can't be had for the moment."""
+
+
+class Full(Away):
+    """The etcd takes nothing more."""
+
+
+class Forgotten(Exception):
+    """A request may have acted long ago, or not: its Request-Id isn't known any more."""
 
 
 def coded(text):
@@ -26,8 +33,9 @@ def numbered(index):
 class Log:
     """The log, and what stands beside it, as keys of an etcd.
 
-    `head` is the last index; `log/INDEX` an entry; `asked/ID` the index and the digest of an operator's request; `answer/INDEX`
-    what it was answered; `replica/NAME` how far a replica is."""
+    `head` is the last index; `log/INDEX` an entry; `asked/ID` the index and the digest of an operator's request; `past` the
+    latest moment of those that were taken away; `tracker/NAME` the index of a tracker's last report; `replica/NAME` how far a
+    replica is."""
 
     def __init__(self, address, prefix):
         self.address, self.prefix = address, prefix
@@ -42,11 +50,14 @@ class Log:
         except (NoAnswer, ValueError) as fault:
             raise Away(fault) from fault
         if status != 200:
-            raise Away(told)
+            raise (Full if "space exceeded" in str(told) else Away)(told)
         return told
 
     def is_absent(self, name):
         return {"target": "CREATE", "key": self.key(name), "createRevision": "0"}
+
+    def has(self, name, value, result="EQUAL"):
+        return {"target": "VALUE", "result": result, "key": self.key(name), "value": coded(value)}
 
     def put(self, name, value):
         return {"requestPut": {"key": self.key(name), "value": coded(value)}}
@@ -61,7 +72,8 @@ class Log:
         """Whether it was done, and the texts that `failure` looks up, None where there is none."""
         told = self.ask("kv/txn", {"compare": compare, "success": list(success), "failure": list(failure)})
         found = [one.get("response_range", {}).get("kvs") for one in told.get("responses", ())]
-        return told.get("succeeded", False), [base64.b64decode(one[0]["value"]).decode() if one else None for one in found]
+        texts = [base64.b64decode(one[0].get("value", "")).decode() if one else None for one in found]
+        return told.get("succeeded", False), texts
 
     def range(self, first, end, limit=0, behind=False):
         """Keys from `first` to `end` with their texts; with `behind` as this member has them, who may be behind others."""
@@ -78,41 +90,52 @@ class Log:
         found = self.range("log/" + numbered(after + 1), "log0", AT_ONCE, behind=True)
         return [(int(key[4:]), json.loads(text)) for key, text in found]
 
-    def append(self, entry, identifier, known, until):
-        """The index of an entry, and that it is this one; or where its identifier is there already, that index, and whether it
-        is the same request. The log is known to have so many entries. A transaction that comes late fails, once another has
-        been appended; and none is made after `until`: so a client that has waited for longer may turn to another replica."""
-        text = json.dumps(entry)
-        digest = hashlib.sha256(f"{entry['path']} {entry['body']}".encode()).hexdigest()
-        asked, head = f"asked/{identifier}", known
-        while time.monotonic() < until:
-            index = head + 1
-            is_head = {"target": "VALUE", "key": self.key("head"), "value": coded(str(head))}
-            compare = [is_head if head else self.is_absent("head"), self.is_absent("log/" + numbered(index))]
-            success = [self.put("head", str(index)), self.put("log/" + numbered(index), text)]
-            if identifier:
-                compare.append(self.is_absent(asked))
-                success.append(self.put(asked, f"{index} {digest}"))
-            done, found = self.change(compare, success, [self.get("head"), self.get(asked)])
-            if done:
-                return index, True
-            if found[1]:
-                index, before = found[1].split()
-                return int(index), before == digest
-            head = int(found[0] or 0)
-            if head < known:
-                raise Away("the etcd has another log")
-        raise Away("others append")
+    def append(self, entry, seen, waits):
+        """The index of an entry, and that it is this one; or where its Request-Id is there already, that index, and whether it
+        is the same request. `seen` is how far the log was known when its client came, `waits` whether that still waits.
 
-    def compact(self, keep):
-        """Takes away what every replica has carried out, but for the last entries."""
+        A transaction holds only while the log ends where it was found to end before the client was looked at. So what comes
+        late comes before all that was answered since, or finds its Request-Id or a later report of its tracker's, or nobody
+        who waits: then nothing is appended."""
+        digest, text, head = hashlib.sha256(f"{entry['path']} {entry['body']}".encode()).hexdigest(), json.dumps(entry), seen
+        is_named, asker = bool(entry["id"]), f"asked/{entry['id']}" if entry["id"] else f"tracker/{entry['tracker']}"
+        while waits():
+            index = numbered(head + 1)
+            compare = [self.has("head", str(head)) if head else self.is_absent("head"), self.is_absent("log/" + index)]
+            if is_named:
+                compare += [self.is_absent(asker), self.has("past", entry["at"], "LESS")]
+            success = [self.put("head", str(head + 1)), self.put("log/" + index, text), self.put(asker, f"{head + 1} {digest}")]
+            done, found = self.change(compare, success, [self.get("head"), self.get(asker), self.get("past")])
+            if done:
+                return head + 1, True
+            head, (last, before), past = int(found[0] or 0), (found[1] or "0 -").split(), found[2]
+            if head < seen:
+                raise Away("the etcd has another log")
+            if is_named and found[1]:
+                return int(last), before == digest
+            if is_named and past is None:
+                self.change([self.is_absent("past")], [self.put("past", "")])
+            elif is_named and past >= entry["at"]:
+                raise Forgotten()
+            elif not is_named and int(last) > seen:
+                raise Away("its tracker has had another report appended")
+        raise Away("its client has gone")
+
+    def compact(self, keep, clock):
+        """Takes away what every replica has carried out, but for the last entries; and the Request-Ids of those whose moment
+        the plan's clock has passed, so that every desk would refuse them."""
         done = min((int(text) for _, text in self.range("replica/", "replica0")), default=0) - keep
         gone = self.range("log/", "log/" + numbered(done + 1), AT_ONCE) if done > 0 else []
         if gone:
-            end = numbered(int(gone[-1][0][4:]) + 1)
-            identifiers = [json.loads(text).get("id") for _, text in gone]
-            self.change([], [self.delete("log/", "log/" + end), self.delete("answer/", "answer/" + end),
-                             *[self.delete(f"asked/{one}") for one in identifiers if one]])
+            entries, past = [json.loads(text) for _, text in gone], dict(self.range("past", "past\0")).get("past")
+            moments = {one["id"]: one["at"] for one in entries if one["id"] and one.get("at", "later") < clock}
+            drop = self.delete("log/", "log/" + numbered(int(gone[-1][0][4:]) + 1))
+            try:
+                self.change([self.is_absent("past") if past is None else self.has("past", past)],
+                            [drop, self.put("past", max([past or "", *moments.values()])),
+                             *[self.delete(f"asked/{one}") for one in moments]])
+            except Full:
+                self.change([], [drop])         # what makes room is taken; the Request-Ids stay
             told = self.ask("kv/range", {"key": self.key("head")})
             self.ask("kv/compaction", {"revision": told["header"]["revision"]})
 

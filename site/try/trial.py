@@ -1,4 +1,4 @@
-"""What trials of the site stand on: a folder with a desk in it, trackers over it, and what its journal tells."""
+"""What trials of the site stand on, the site's own modules too: a folder with a desk, trackers over it, what its journal tells."""
 import json
 import os
 import random
@@ -14,10 +14,13 @@ from importlib.machinery import SourceFileLoader
 from importlib.util import module_from_spec, spec_from_loader
 from pathlib import Path
 
-from common import Desk, key_of, words_of
+HERE = Path(__file__).resolve().parent.parent
+sys.path.insert(0, str(HERE))
 
-HERE = Path(__file__).resolve().parent
-PROGRAM = HERE.parent / "crates" / "plan_desk" / "out" / "plan_desk"
+from common import ALWAYS, PROGRAM, Desk, key_of, moment, words_of
+
+os.environ["TZ"] = "UTC"        # (one zone for all that is started)
+time.tzset()
 LOOKS = ("/health", "/occurrences", "/ready/{workstation}", "/started", "/started/{workstation}", "/report/occurrences",
          "/report/errors", "/report/late", "/report/ready/{workstation}", "/show/started", "/show/resources", "/show/workstations",
          "/show/trackers", "/show/operations/{occurrence}", "/why/{occurrence}/010", "/forecast", "/board")
@@ -78,6 +81,27 @@ def looks_of(workstation, occurrence):
     return [path.format(workstation=workstation, occurrence=occurrence) for path in LOOKS]
 
 
+def occurrence_of(key, operations, after=(), priority=5, deadline=None, not_before=""):
+    """An occurrence's records, as an addition has them. `operations` has of each number its workstation and minutes, `after`
+    pairs of numbers, of which the second follows the first."""
+    key = key.replace("/", ",")
+    return "".join(f"{line}\n" for line in [
+        f"O,{key},{priority},{deadline or moment(600)},,,,,",
+        *[f"P,{key},{number},{workstation},{minutes},0,0,{not_before}," for number, (workstation, minutes) in operations.items()],
+        *[f"D,{key},{one},{key},{other},,," for one, other in after]])
+
+
+def chain(numbers):
+    """The pairs by which operations follow one another."""
+    return list(zip(numbers, list(numbers)[1:]))
+
+
+def plan_of(workstations, *texts):
+    """A plan: workstations that are always open, of each name its attribute and servers, and other records."""
+    return "".join(f"W,{name},{attribute},,,,,,,\nI,{name},{ALWAYS},{servers},0,0,,,\n"
+                   for name, (attribute, servers) in workstations.items()) + "".join(texts)
+
+
 def free_port():
     with socket.socket() as probe:
         probe.bind(("127.0.0.1", 0))
@@ -121,9 +145,9 @@ class Site:
         """What a command prints that has to succeed."""
         return done(self.program, *words, cwd=self.folder)
 
-    def tool(self, name, *words):
+    def tool(self, name, *words, **more):
         """The exit status of a program of the site, and what it prints."""
-        return run(HERE / name, *words, cwd=self.folder)
+        return run(HERE / name, *words, cwd=self.folder, **more)
 
     def load(self, plan, at):
         (self.folder / "plan.csv").write_text(plan)
@@ -146,13 +170,13 @@ class Site:
         self.process.stdout.close()
         self.process.stderr.close()
 
-    def start_tracker(self, name, *words):
+    def start_tracker(self, name, *words, **more):
         """A tracker of this name, by the table NAME.table, with its folder trackers/NAME and what it says in NAME.said."""
         said = open(self.folder / f"{name}.said", "ab")
         tracker = [HERE / "tracker", "--name", name, "--folder", f"trackers/{name}", "--table", f"{name}.table",
                    "--desk", self.address, *words]
         self.started.append(subprocess.Popen([*map(str, tracker)], cwd=self.folder, stdout=said, stderr=said,
-                                             start_new_session=True))
+                                             start_new_session=True, **more))
         said.close()
         return self.started[-1]
 
