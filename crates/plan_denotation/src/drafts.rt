@@ -13,6 +13,13 @@ use plan_drafts::{Addition, DraftParts, Extension, PlanContents, PlanDraft};
 use plan_items::Item;
 use std::alloc::{AllocError, Global};
 
+/// What records may denote: a plan to be loaded, an addition to one, an extension of it.
+pub trait Build: Sized {
+    /// What the records of a text denote; `None` where they denote nothing of this kind. They may come in any order. The error is
+    /// always `Memory`.
+    fn build(records: Vec<Record>) -> Result<Option<Self>, Refusal>;
+}
+
 // The contents of the plan whose items these are, with their graph.
 fn parts_of_items(alloc: Global, items: &[Item]) -> Result<Option<DraftParts>, AllocError>
     requires { All IsItem items.now }
@@ -33,24 +40,26 @@ pub fn contents_of_items(alloc: Global, items: &[Item]) -> Result<Option<PlanCon
     }
 }
 
-/// The draft that the records of a text denote; `None` where they denote none. There is at least one workstation, of
-/// any attribute, each with intervals or without; intervals of one workstation may touch, but not overlap. There may be
-/// special resources. There is at least one occurrence, each with its operations, and an operation may need R1, R2 and
-/// special resources, of each no more than there is; pairs may lead from one occurrence to another, but no path of
-/// pairs returns to its start. How many there may be of each is in `plan_basics::limits`. The records may come in any
-/// order. The error is always `Memory`.
-pub fn draft_of_records(records: Vec<Record>) -> Result<Option<PlanDraft>, Refusal>
-    ensures denoted { IfOk result (λ found. MatchOption found ((P : Contents) → ¬ Denotes (records_of records.items) P) (λ draft. Denotes (records_of records.items) draft)) }
-    ensures memory { IfErr result (λ r. r ≡ Refusal.Memory) }
-{
-    let alloc = *records.allocator();
-    let Some(items) = read_items(alloc, &records)? else {
-        return Ok(None);
-    };
-    draft_of_items(alloc, &items)
+impl Build for PlanDraft {
+    /// The draft that the records of a text denote; `None` where they denote none. There is at least one workstation, of
+    /// any attribute, each with intervals or without; intervals of one workstation may touch, but not overlap. There may be
+    /// special resources. There is at least one occurrence, each with its operations, and an operation may need R1, R2 and
+    /// special resources, of each no more than there is; pairs may lead from one occurrence to another, but no path of
+    /// pairs returns to its start. How many there may be of each is in `plan_basics::limits`. The records may come in any
+    /// order. The error is always `Memory`.
+    fn build(records: Vec<Record>) -> Result<Option<PlanDraft>, Refusal>
+        ensures denoted { IfOk result (λ found. MatchOption found ((P : Contents) → ¬ Denotes (records_of records.items) P) (λ draft. Denotes (records_of records.items) draft)) }
+        ensures memory { IfErr result (λ r. r ≡ Refusal.Memory) }
+    {
+        let alloc = *records.allocator();
+        let Some(items) = read_items(alloc, &records)? else {
+            return Ok(None);
+        };
+        draft_of_items(alloc, &items)
+    }
 }
 
-/// The draft that records denote which say these items, one item each, as `draft_of_records` makes it of the records; `None` where they
+/// The draft that records denote which say these items, one item each, as `PlanDraft::build` makes it of the records; `None` where they
 /// denote none. The error is always `Memory`.
 pub fn draft_of_items(alloc: Global, items: &[Item]) -> Result<Option<PlanDraft>, Refusal>
     requires { All IsItem items.now }
@@ -66,22 +75,24 @@ pub fn draft_of_items(alloc: Global, items: &[Item]) -> Result<Option<PlanDraft>
     Ok(Some(PlanDraft::of_parts(parts)))
 }
 
-/// The addition that the records of a text denote; `None` where they denote none. There is one occurrence with at least
-/// one operation, each of which may need R1, R2 and up to `MOST_NEEDS` special resources. Each pair has an end in the
-/// occurrence, and its ends there are operations of the text; whatever else is named is looked up in the plan when the
-/// occurrence is added. The records may come in any order. The error is always `Memory`.
-pub fn addition_of_records(records: Vec<Record>) -> Result<Option<Addition>, Refusal>
-    ensures denoted { IfOk result (λ found. MatchOption found ((s : AddedParts) → ¬ DenotesAddition (records_of records.items) s) (λ a. DenotesAddition (records_of records.items) a)) }
-    ensures memory { IfErr result (λ r. r ≡ Refusal.Memory) }
-{
-    let alloc = *records.allocator();
-    let Some(items) = read_items(alloc, &records)? else {
-        return Ok(None);
-    };
-    addition_of_items(alloc, &items)
+impl Build for Addition {
+    /// The addition that the records of a text denote; `None` where they denote none. There is one occurrence with at least
+    /// one operation, each of which may need R1, R2 and up to `MOST_NEEDS` special resources. Each pair has an end in the
+    /// occurrence, and its ends there are operations of the text; whatever else is named is looked up in the plan when the
+    /// occurrence is added. The records may come in any order. The error is always `Memory`.
+    fn build(records: Vec<Record>) -> Result<Option<Addition>, Refusal>
+        ensures denoted { IfOk result (λ found. MatchOption found ((s : AddedParts) → ¬ DenotesAddition (records_of records.items) s) (λ a. DenotesAddition (records_of records.items) a)) }
+        ensures memory { IfErr result (λ r. r ≡ Refusal.Memory) }
+    {
+        let alloc = *records.allocator();
+        let Some(items) = read_items(alloc, &records)? else {
+            return Ok(None);
+        };
+        addition_of_items(alloc, &items)
+    }
 }
 
-/// The addition that records denote which say these items, one item each, as `addition_of_records` makes it of the records; `None` where they
+/// The addition that records denote which say these items, one item each, as `Addition::build` makes it of the records; `None` where they
 /// denote none. The error is always `Memory`.
 pub fn addition_of_items(alloc: Global, items: &[Item]) -> Result<Option<Addition>, Refusal>
     requires { All IsItem items.now }
@@ -97,21 +108,23 @@ pub fn addition_of_items(alloc: Global, items: &[Item]) -> Result<Option<Additio
     Ok(Some(Addition::of_parts(parts)))
 }
 
-/// The extension that the records of a text denote; `None` where they denote none. There may be any number of occurrences,
-/// each with at least one operation; each pair has an end in one of them, and its ends there are operations of the text. The
-/// records may come in any order. The error is always `Memory`.
-pub fn extension_of_records(records: Vec<Record>) -> Result<Option<Extension>, Refusal>
-    ensures denoted { IfOk result (λ found. MatchOption found ((s : AddedParts) → ¬ DenotesExtension (records_of records.items) s) (λ a. DenotesExtension (records_of records.items) a)) }
-    ensures memory { IfErr result (λ r. r ≡ Refusal.Memory) }
-{
-    let alloc = *records.allocator();
-    let Some(items) = read_items(alloc, &records)? else {
-        return Ok(None);
-    };
-    extension_of_items(alloc, &items)
+impl Build for Extension {
+    /// The extension that the records of a text denote; `None` where they denote none. There may be any number of occurrences,
+    /// each with at least one operation; each pair has an end in one of them, and its ends there are operations of the text. The
+    /// records may come in any order. The error is always `Memory`.
+    fn build(records: Vec<Record>) -> Result<Option<Extension>, Refusal>
+        ensures denoted { IfOk result (λ found. MatchOption found ((s : AddedParts) → ¬ DenotesExtension (records_of records.items) s) (λ a. DenotesExtension (records_of records.items) a)) }
+        ensures memory { IfErr result (λ r. r ≡ Refusal.Memory) }
+    {
+        let alloc = *records.allocator();
+        let Some(items) = read_items(alloc, &records)? else {
+            return Ok(None);
+        };
+        extension_of_items(alloc, &items)
+    }
 }
 
-/// The extension that records denote which say these items, one item each, as `extension_of_records` makes it of the records; `None` where
+/// The extension that records denote which say these items, one item each, as `Extension::build` makes it of the records; `None` where
 /// they denote none. The error is always `Memory`.
 pub fn extension_of_items(alloc: Global, items: &[Item]) -> Result<Option<Extension>, Refusal>
     requires { All IsItem items.now }

@@ -12,10 +12,7 @@ mod key_order;
 mod needs;
 
 pub use builder::Record;
-pub use drafts::{
-    addition_of_items, addition_of_records, contents_of_items, draft_of_items, draft_of_records,
-    extension_of_items, extension_of_records,
-};
+pub use drafts::{Build, addition_of_items, contents_of_items, draft_of_items, extension_of_items};
 pub use in_order::is_acyclic;
 pub use key_order::in_key_order;
 

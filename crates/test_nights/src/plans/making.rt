@@ -1,7 +1,8 @@
 // What is made of texts and of records, in want of memory.
 use crate::sections::joined;
 use plan_basics::{Refusal, Watched};
-use plan_denotation::{Record, addition_of_records, draft_of_records, extension_of_records};
+use plan_denotation::{Build, Record};
+use plan_drafts::{Addition, Extension, PlanDraft};
 use plan_import::{ImportFault, read_extension, read_occurrence, read_plan};
 use std::alloc::{AllocError, Global};
 use std::array;
@@ -65,9 +66,9 @@ fn records(alloc: Global, text: &str) -> Result<Vec<Record>, AllocError> {
 // What comes of building of records.
 fn building(what: &str, records: Vec<Record>) -> MemoryOutcome {
     match what {
-        "draft" => built(draft_of_records(records)),
-        "addition" => built(addition_of_records(records)),
-        _ => built(extension_of_records(records)),
+        "draft" => built(PlanDraft::build(records)),
+        "addition" => built(Addition::build(records)),
+        _ => built(Extension::build(records)),
     }
 }
 

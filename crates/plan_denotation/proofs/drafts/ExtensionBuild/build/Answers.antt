@@ -5,7 +5,7 @@ use Rattle.plan_items.specs.Items.{Fields, Says}
 use Rattle.plan_model.specs.Contents.{AddedParts}
 use Rattle.plan_drafts.specs.Records.{DenotesExtension, records_of}
 use Rattle.plan_denotation.proofs.Denoting.{items_legal, said_by}
-use Rattle.plan_denotation.proofs.drafts.extension_of_records.Goals as goal
+use Rattle.plan_denotation.proofs.drafts.ExtensionBuild.build.Goals as goal
 
 pub extension_of_items-requires : goal.extension_of_items-requires
 extension_of_items-requires c =

@@ -5,7 +5,7 @@ use Rattle.plan_items.specs.Items.{Fields, Says}
 use Rattle.plan_model.specs.Contents.{AddedParts}
 use Rattle.plan_drafts.specs.Records.{DenotesAddition, records_of}
 use Rattle.plan_denotation.proofs.Denoting.{items_legal, said_by}
-use Rattle.plan_denotation.proofs.drafts.addition_of_records.Goals as goal
+use Rattle.plan_denotation.proofs.drafts.AdditionBuild.build.Goals as goal
 
 pub addition_of_items-requires : goal.addition_of_items-requires
 addition_of_items-requires c =

@@ -5,7 +5,7 @@ use Rattle.plan_items.specs.Items.{Fields, Says}
 use Rattle.plan_model.specs.Contents.{Contents}
 use Rattle.plan_drafts.specs.Records.{Denotes, records_of}
 use Rattle.plan_denotation.proofs.Denoting.{items_legal, said_by}
-use Rattle.plan_denotation.proofs.drafts.draft_of_records.Goals as goal
+use Rattle.plan_denotation.proofs.drafts.PlanDraftBuild.build.Goals as goal
 
 pub draft_of_items-requires : goal.draft_of_items-requires
 draft_of_items-requires c =
