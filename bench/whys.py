@@ -156,7 +156,7 @@ def is_path_told(plan, text, line, keys):
 
 
 def beside_lines(plan, text):
-    """What is wrong with the records of an extension's text beside what stays of the plan: docs/PROMISES.md, of `faults_beside`."""
+    """What is wrong with the records of an extension's text beside what stays of the plan: docs/PROOF.md, of `faults_beside`."""
     left = without_what_is_over(plan)
     records = [line.split(",") for line in text.splitlines()]
     own = {occurrence_of(f"{fields[1]}/{fields[2]}") for fields in records if fields[0] == "O"}
@@ -294,7 +294,7 @@ def play_night(trial, seed, requests):
 
 
 def warnings_of(text):
-    """What the records of a plan's text are warned of, in their order: docs/PROMISES.md, of `warnings_of_text`."""
+    """What the records of a plan's text are warned of, in their order: docs/PROOF.md, of `warnings_of_text`."""
     records = [[field.decode() for field in fields] for fields in records_of(text)]
     starts_known = {fields[1]: fields[2] in "AS" for fields in records if fields[0] == "W"}
     deadlines = {tuple(fields[1:3]): fields[4] for fields in records if fields[0] == "O"}
