@@ -338,7 +338,7 @@ def try_at(given, folder):
             desk.kill()
     words = ["desk", "--db", "night.db", "--port", "1", "--at"]
     got = run(given, folder, *words, "2072-01-01T00:00")
-    judge(got == (1, b"refused 2 MomentRange\n", b""), "--at after the last moment", got)
+    judge(got[0] == 1 and b"--at 2072-01-01T00:00: more than --gap" in got[1], "--at far after the clock", got)
     got = run(given, folder, *words, "2024-13-01T00:00")
     judge(got == (2, b"", b"fault moment\n"), "--at that is no moment", got)
 

@@ -193,7 +193,7 @@ class ByDesk(Way):
         """The answer of a desk that is started again to the tick at its beginning."""
         self.let_go()
         try:
-            self.serve("--at", turn.at)
+            self.serve("--at", turn.at, "--gap", "52596000")
         except RuntimeError as ended:
             return str(ended).partition("b'")[2].partition("\\n")[0]
         return "names -"

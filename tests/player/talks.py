@@ -1,6 +1,6 @@
 """Plays talks: what clients send to a desk over its port, and what they are told.
 
-A talk begins with the command that serves its desk, `serve` or `desk`: over a database of its own, in which no plan is
+A talk begins with the command that serves its desk, `serve`, `desk` or `desk --bound`: over a database of its own, in which no plan is
 loaded, and with a journal where it is `desk`. Blocks follow, each parted from the next by an empty line. A line that begins
 with `#` is a comment. A block is one of these:
 
@@ -28,6 +28,8 @@ with `#` is a comment. A block is one of these:
     journal                              the last lines of the journal; what is sent by GET adds none to it
     {"reply":{"named":[]},"status":200}
 
+    moved                                the journal's file gets another name: what follows stands in a new one
+
     anew                                 the desk is ended, and started again over its database
 
 What is sent is a request, `GET PATH` or `POST PATH BODY`, or, behind `sent`, bytes as they are: there `~` ends a line of a
@@ -49,7 +51,8 @@ import struct
 from . import common
 
 COMMANDS = {"serve": ["serve", "--db", "night.db", "--requests", "1000000"],
-            "desk": ["desk", "--db", "night.db", "--journal", "night.journal"]}
+            "desk": ["desk", "--db", "night.db", "--journal", "night.journal"],
+            "desk --bound": ["desk", "--db", "night.db", "--bound", "--journal", "night.journal"]}
 SENT = re.compile(r"(cut |gone |)((?:GET|POST|sent) .*)")
 STANDS = re.compile(r"(\w+)/(\d{4}-\d\d-\d\dT\d\d:\d\d)/(\d{3}) (.*)")
 SHORT = re.compile(r"<(\d+) ([^>]*)>|<([a-z_]+\.csv)>")
@@ -186,7 +189,10 @@ class Talk:
             if there != stands[4]:
                 self.fail(first, repr(stands[4]), repr(there))
         elif first.text == "journal":
-            self.compare(told, self.entries()[-len(told):], block[-1])
+            wanted = [common.Line(line.number, written_out(line.text, self.path.parent)) for line in told]
+            self.compare(wanted, self.entries()[-len(told):], block[-1])
+        elif first.text == "moved":
+            (self.folder / "night.journal").rename(self.folder / "moved.journal")
         elif first.text == "anew":
             self.end()
             self.begin()

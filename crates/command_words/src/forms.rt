@@ -4,11 +4,17 @@
 #[derive(Clone, Copy)]
 pub enum ValueForm {
     Text,
+    /// A text, as often as the option is given.
+    Texts,
+    /// None: the option is given, or it isn't.
+    Absent,
     Kind,
     Show,
     Port,
     Connections,
     Minutes,
+    /// Minutes, as many as lie between any two moments.
+    AllMinutes,
 }
 
 /// When an option has to be given.
@@ -28,7 +34,7 @@ pub enum Need {
     Beside(&'static str, &'static [&'static str]),
 }
 
-/// A long option with one value.
+/// A long option, and its value.
 #[derive(Clone, Copy)]
 pub struct OptionForm {
     pub name: &'static str,
@@ -312,9 +318,23 @@ pub const COMMANDS: [CommandForm; 13] = [
                 need: Need::Never,
             },
             OptionForm {
+                name: "gap",
+                value_name: "MINUTES",
+                help: "How far after the plan's clock the moment of --at may be: 1 to 52596000 minutes, 43200 where it isn't given",
+                value: ValueForm::AllMinutes,
+                need: Need::Never,
+            },
+            OptionForm {
+                name: "bound",
+                value_name: "",
+                help: "A report is taken from the tracker alone that the field Plandesk-By of its head names",
+                value: ValueForm::Absent,
+                need: Need::Never,
+            },
+            OptionForm {
                 name: "journal",
                 value_name: "FILE",
-                help: "Where a line for each request and one for its answer are appended; made where there is none",
+                help: "Where a line for each request and one for its answer are appended; made where there is none. It may be moved meanwhile",
                 value: ValueForm::Text,
                 need: Need::Never,
             },
@@ -337,8 +357,8 @@ pub const COMMANDS: [CommandForm; 13] = [
             OptionForm {
                 name: "journal",
                 value_name: "FILE",
-                help: "In place of --requests: the journal of a desk, from the load on; its answers are compared",
-                value: ValueForm::Text,
+                help: "In place of --requests: the journal of a desk, from the load on; its answers are compared. One of several files is given so for each, in their order",
+                value: ValueForm::Texts,
                 need: Need::Never,
             },
         ],

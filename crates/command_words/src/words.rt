@@ -8,7 +8,7 @@ use clap::{Arg, ArgAction, ArgMatches, Command};
 use std::alloc::{AllocError, Global};
 
 /// The version of the newest entry of CHANGELOG.md.
-const VERSION: &str = "0.20.0";
+const VERSION: &str = "0.21.0";
 
 /// The kinds of a report.
 const KINDS: [&str; 4] = ["ready", "occurrences", "errors", "late"];
@@ -35,6 +35,8 @@ fn option<'a>(alloc: Global, name: &'a str, value_name: &'a str, help: &'a str) 
 fn typed<'a>(option: Arg<'a>, value: ValueForm) -> Arg<'a> {
     match value {
         ValueForm::Text => option,
+        ValueForm::Texts => option.action(ArgAction::Append),
+        ValueForm::Absent => option.action(ArgAction::SetTrue),
         ValueForm::Kind => option.value_parser(KINDS.as_slice()),
         ValueForm::Show => option.value_parser(SHOWS.as_slice()),
         ValueForm::Port => option.value_parser(clap::value_parser!(u16).range(1..)),
@@ -42,6 +44,9 @@ fn typed<'a>(option: Arg<'a>, value: ValueForm) -> Arg<'a> {
             1..=1_000_000,
         )),
         ValueForm::Minutes => option.value_parser(clap::value_parser!(u32).range(1..=5_256_000)),
+        ValueForm::AllMinutes => option.value_parser(clap::value_parser!(u32).range(
+            1..=52_596_000,
+        )),
     }
 }
 

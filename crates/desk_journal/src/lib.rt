@@ -8,4 +8,4 @@ mod lines;
 
 pub use entries::{Entry, read_entry};
 pub use journal::{Journal, JournalFault};
-pub use lines::{answer_line, request_line};
+pub use lines::{BRIEF_BYTES, answer_line, request_line};

@@ -3,10 +3,13 @@ ghost use Rattle.std.specs.Prelude.{◌≡◌, false, IfOk, option_map};
 ghost use Rattle.serde_json.specs.Data.{Data};
 ghost use Rattle.serde_json.specs.View.{view};
 ghost use Rattle.serde_json.specs.Written.{compact_text, has_float};
-ghost use Rattle.desk_journal.specs.Lines.{answer_data, line_of, request_data, text_of, text_or_null};
+ghost use Rattle.desk_journal.specs.Lines.{answer_data, line_of, request_data, text_of, text_or_null, told_of};
 
 use serde_json::{Value, json};
 use std::alloc::{AllocError, Global};
+
+/// How many bytes of a body stand in a line that tells it in brief.
+pub const BRIEF_BYTES: usize = 256;
 
 // A text as a value, or null.
 fn text_or_null(alloc: Global, text: Option<&str>) -> Result<Value, AllocError>
@@ -28,17 +31,38 @@ fn text_of(body: &[u8]) -> Option<&str>
     }
 }
 
+// What is told of a body.
+fn told_of(body: &[u8], is_brief: bool) -> &[u8]
+    ensures { result.now ≡ told_of is_brief body.now }
+{
+    if is_brief {
+        &body[..BRIEF_BYTES.min(body.len())]
+    } else {
+        body
+    }
+}
+
 fn request_value(
     alloc: Global,
     clock: Option<&str>,
+    by: Option<&str>,
     path: &str,
     body: &[u8],
+    is_brief: bool,
 ) -> Result<Value, AllocError>
-    ensures { IfOk result (λ v. view v ≡ request_data (option_map (λ t. t.now) clock.entry) path.now body.now) }
+    ensures { IfOk result (λ v. view v ≡ request_data (option_map (λ t. t.now) clock.entry) (option_map (λ t. t.now) by.entry) path.now is_brief body.now) }
 {
-    let body = text_or_null(alloc, text_of(body))?;
+    let told = text_or_null(alloc, text_of(told_of(body, is_brief)))?;
     let clock = text_or_null(alloc, clock)?;
-    json!(in alloc; {"body": body, "clock": clock, "path": path})
+    let bytes = body.len();
+    match by {
+        Some(by) if is_brief =>
+            json!(in alloc; {"body": told, "by": by, "bytes": bytes, "clock": clock, "path": path}),
+        Some(by) => json!(in alloc; {"body": told, "by": by, "clock": clock, "path": path}),
+        None if is_brief =>
+            json!(in alloc; {"body": told, "bytes": bytes, "clock": clock, "path": path}),
+        None => json!(in alloc; {"body": told, "clock": clock, "path": path}),
+    }
 }
 
 // A value as a line.
@@ -50,17 +74,20 @@ fn line_of(alloc: Global, value: &Value) -> Result<Vec<u8>, AllocError>
     Ok(text)
 }
 
-/// The line of a request: the plan's clock before it, where one is loaded, its path, and its body, which may be no text.
+/// The line of a request: the plan's clock before it, where one is loaded, who makes it, where that is known, its path, and its
+/// body, which may be no text. In brief it tells the body's first 256 bytes, and how many bytes it has.
 #[tactic(auto, using(crate::proofs::Plain::plain_request))]
 pub fn request_line(
     alloc: Global,
     clock: Option<&str>,
+    by: Option<&str>,
     path: &str,
     body: &[u8],
+    is_brief: bool,
 ) -> Result<Vec<u8>, AllocError>
-    ensures { IfOk result (λ text. text.items ≡ line_of (request_data (option_map (λ t. t.now) clock.entry) path.now body.now)) }
+    ensures { IfOk result (λ text. text.items ≡ line_of (request_data (option_map (λ t. t.now) clock.entry) (option_map (λ t. t.now) by.entry) path.now is_brief body.now)) }
 {
-    let value = request_value(alloc, clock, path, body)?;
+    let value = request_value(alloc, clock, by, path, body, is_brief)?;
     line_of(alloc, &value)
 }
 

@@ -14,6 +14,7 @@ nothing (Some since) none = absurd (none refl)
 pub follows_itself : (P : Plan) (terms : Terms) → AreTermsOf P terms → AreFollowed P P terms terms
 follows_itself P terms going = record {
   ahead = refl;
+  bound = refl;
   going = going;
   starts = record {
     begun = λ o becomes. absurd (becomes.0 becomes.1);
@@ -24,12 +25,12 @@ follows_itself P terms going = record {
 
 -- terms that have followed a desk are those of its plan
 pub still_terms : (before after : Plan) (old new : Terms) → AreFollowed before after old new → AreStillTermsOf after old new
-still_terms before after old new followed = record { ahead = followed.ahead; going = followed.going }
+still_terms before after old new followed = record { ahead = followed.ahead; bound = followed.bound; going = followed.going }
 
 -- terms that are so of one plan, and then of another, are so of that
 pub still : (before after : Plan) (old mid new : Terms) → AreStillTermsOf before old mid → AreStillTermsOf after mid new → AreStillTermsOf after old new
-still before after old mid new one two = record { ahead = two.ahead ∙ one.ahead; going = two.going }
+still before after old mid new one two = record { ahead = two.ahead ∙ one.ahead; bound = two.bound ∙ one.bound; going = two.going }
 
 -- and so if they have followed one more exchange
 pub still_followed : (before after : Plan) (old mid new : Terms) → AreStillTermsOf before old mid → AreFollowed before after mid new → AreStillTermsOf after old new
-still_followed before after old mid new one two = record { ahead = two.ahead ∙ one.ahead; going = two.going }
+still_followed before after old mid new one two = record { ahead = two.ahead ∙ one.ahead; bound = two.bound ∙ one.bound; going = two.going }

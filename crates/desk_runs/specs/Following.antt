@@ -1,5 +1,5 @@
 -- What a desk that is served knows of starts.
-use Rattle.std.specs.Prelude.{◌≡◌, ℕ, Option, Some, None}
+use Rattle.std.specs.Prelude.{◌≡◌, ℕ, Bool, Option, Some, None}
 use Rattle.desk_serving.specs.declared.terms.Terms.{Terms}
 use Rattle.desk_serving.specs.forecasting.specs.Known.{AreOfGoing, since_in}
 use Rattle.desk_serving.specs.plan_forecast.specs.Starts.{AreStartsAfter}
@@ -10,19 +10,22 @@ use Rattle.plan_basics.specs.declared.keys.OpKey.{OpKey}
 abbrev pub AreTermsOf : Plan → Terms → Type 0
 AreTermsOf P terms = AreOfGoing P.contents terms.known
 
--- so at opening, with a guard of so many minutes: since when anything is going isn't known
-pub record AreFirstTermsOf (P : Plan) (minutes : ℕ) (terms : Terms) : Type 0 where
+-- so at opening, with a guard of so many minutes, and trackers bound or not: since when anything is going isn't known
+pub record AreFirstTermsOf (P : Plan) (minutes : ℕ) (is_bound : Bool) (terms : Terms) : Type 0 where
   pub ahead : terms.ahead ≡ Some minutes
+  pub bound : terms.bound ≡ is_bound
   pub going : AreTermsOf P terms
   pub unknown : (o : OpKey) → since_in terms.known o ≡ None
 
--- so later, with the same guard
+-- so later, with the same guards
 pub record AreStillTermsOf (P : Plan) (old new : Terms) : Type 0 where
   pub ahead : new.ahead ≡ old.ahead
+  pub bound : new.bound ≡ old.bound
   pub going : AreTermsOf P new
 
--- they have followed a desk from one plan to the next: what became going by it is known since its clock, what goes on as before, and of all else nothing; the guard is the same
+-- they have followed a desk from one plan to the next: what became going by it is known since its clock, what goes on as before, and of all else nothing; the guards are the same
 pub record AreFollowed (before after : Plan) (old new : Terms) : Type 0 where
   pub ahead : new.ahead ≡ old.ahead
+  pub bound : new.bound ≡ old.bound
   pub going : AreTermsOf after new
   pub starts : AreStartsAfter before after (since_in old.known) (since_in new.known)

@@ -1,4 +1,4 @@
-// The terms of a desk that is served: the clock's guard, and the starts that are known, which follow the desk's plan from one
+// The terms of a desk that is served: its guards, and the starts that are known, which follow the desk's plan from one
 // exchange to the next.
 ghost use Rattle.std.specs.Prelude.{◌≡◌, IfErr, IfOk, OnErr, OnOk};
 ghost use Rattle.command_answers.specs.declared.endings.Fault.{Fault};
@@ -8,15 +8,16 @@ ghost use Rattle.desk_runs.specs.Following.{AreFirstTermsOf, AreFollowed, AreTer
 use command_answers::Fault;
 use desk_serving::{KnownStarts, Plan, Terms};
 
-/// The terms of a desk that is opened with this plan, where a request's moment may be so many minutes after its clock: of what
-/// is going it isn't known since when. The fault is that of memory.
-pub fn first_terms(plan: &Plan, minutes: u32) -> Result<Terms, Fault>
-    ensures first { IfOk result (AreFirstTermsOf plan.now.plan minutes) }
+/// The terms of a desk that is opened with this plan, where a request's moment may be so many minutes after its clock, and
+/// trackers are bound to their names or not: of what is going it isn't known since when. The fault is that of memory.
+pub fn first_terms(plan: &Plan, minutes: u32, bound: bool) -> Result<Terms, Fault>
+    ensures first { IfOk result (AreFirstTermsOf plan.now.plan minutes bound) }
     ensures fault { IfErr result (λ fault. fault ≡ Fault.Memory) }
 {
     let known = KnownStarts::of(plan)?;
     Ok(Terms {
         ahead: Some(minutes),
+        bound,
         known,
     })
 }

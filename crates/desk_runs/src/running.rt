@@ -1,5 +1,11 @@
 // `desk`: the desk of a database's file over HTTP, until it is ended.
-ghost use Rattle.std.specs.Prelude.{◌≡◌, IfOk, IsErr, OnOk};
+ghost use Rattle.std.specs.Prelude.{◌≡◌, codes, IfOk, IsErr, OnOk};
+ghost use Rattle.std.specs.Io.KnownBytes.{Appends};
+ghost use Rattle.clap.specs.Matches.{found_of};
+ghost use Rattle.plan_basics.specs.MomentTexts.{moment_text};
+ghost use Rattle.plan_basics.specs.Watched.{inner_of};
+ghost use Rattle.command_words.specs.Words.{text_given};
+ghost use Rattle.desk_runs.specs.Ticks.{IsBeyond, gap_text};
 ghost use Rattle.command_answers.specs.declared.endings.Ending.{Ending};
 ghost use Rattle.desk_serving.specs.tracker_http.specs.Continuing.{Continues};
 ghost use Rattle.desk_runs.specs.Following.{AreFollowed, AreTermsOf};
@@ -8,7 +14,7 @@ use super::following::{first_terms, follow};
 use super::journals::opened_journal;
 use super::polling::serve_polled;
 use super::serving::taken_port;
-use super::ticks::{is_behind, tick};
+use super::ticks::{is_behind, is_beyond, tell_gap, tick};
 use clap::ArgMatches;
 use command_answers::{Ending, Fault, moment_if_given, tell, tell_no_desk};
 use command_desks::{Database, Desk, close_desk, stored_desk};
@@ -21,6 +27,9 @@ use std::rt::HostRuntime;
 
 /// How many minutes after the plan's clock a request's moment may be, where the words don't say.
 const MINUTES_AHEAD: u32 = 1_440;
+
+/// How many minutes after the plan's clock `--at` may be, where the words don't say: thirty days.
+const MINUTES_GAP: u32 = 43_200;
 
 /// Tells that the port of the words is taken, and serves until a fault ends it.
 fn listen<J: Write, S: Alter + Drop, W: Write>(
@@ -69,7 +78,7 @@ fn brought_to<J: Write, S: Alter + Drop>(
 
 /// Opens the journal that the words name, brings the plan to the moment that they give, and serves until a fault ends it. A
 /// refusal of the tick is shown.
-fn run<S: Alter + Drop, W: Write>(
+fn start<S: Alter + Drop, W: Write>(
     rt: &HostRuntime,
     given: &ArgMatches,
     at: Option<i64>,
@@ -81,7 +90,7 @@ fn run<S: Alter + Drop, W: Write>(
 {
     let mut journal = opened_journal(rt, given.get_str("journal"))?;
     let minutes = given.get_one::<u32>("ahead").unwrap_or(MINUTES_AHEAD);
-    let mut terms = first_terms(desk.plan(), minutes)?;
+    let mut terms = first_terms(desk.plan(), minutes, given.get_flag("bound"))?;
     let answer = brought_to(rt, given, at, &mut journal, desk, &mut terms)?;
     match answer {
         Some(Reply::Refused(refusal)) => tell(out, &Reply::Refused(refusal)),
@@ -89,6 +98,27 @@ fn run<S: Alter + Drop, W: Write>(
             listen(rt, given, &mut journal, desk, &mut terms, out)
         }
     }
+}
+
+/// Starts a desk, unless the moment that the words give is more than so many minutes after the clock of its plan: that is
+/// shown, and nothing is opened, and nothing changes.
+fn run<S: Alter + Drop, W: Write>(
+    rt: &HostRuntime,
+    given: &ArgMatches,
+    at: Option<i64>,
+    gap: u32,
+    desk: &mut Desk<S>,
+    out: &mut Watched<W>,
+) -> Result<Ending, Fault>
+    ensures ending { IfOk result (λ ending. ending ≡ Ending.Refused) }
+    ensures beyond { IsBeyond gap desk.old.plan at → (desk.new ≡ desk.old)
+        × IfOk result (λ ending. Appends (W.contents (inner_of out.old)) (W.contents (inner_of out.new)) (gap_text (moment_text desk.old.plan.clock) (text_given (found_of given.now) (codes "at")) gap)) }
+    ensures continues { Continues S.Store desk.old desk.new }
+{
+    if is_beyond(desk.plan(), at, gap) {
+        return tell_gap(out, desk.plan().clock(), value_of(given, "at"), gap);
+    }
+    start(rt, given, at, desk, out)
 }
 
 /// Runs a desk, and closes its database.
@@ -104,12 +134,13 @@ where
     ensures { IfOk result (λ ending. ending ≡ Ending.Refused) }
 {
     let mut desk = desk;
-    let ended = run(rt, given, at, &mut desk, out);
+    let gap = given.get_one::<u32>("gap").unwrap_or(MINUTES_GAP);
+    let ended = run(rt, given, at, gap, &mut desk, out);
     close_desk(desk)?;
     ended
 }
 
-/// `desk`: the moment is judged before the database is opened, and that before the journal. It ends by a fault alone: then
+/// `desk`: the moment is judged before the database is opened, and beside the plan's clock before the journal is. It ends by a fault alone: then
 /// the database is closed, but where its store has failed; or by a refusal of the tick.
 pub fn run_desk<S: Alter + Drop, W: Write>(
     rt: &HostRuntime,

@@ -1,3 +1,4 @@
 mod Clock
 mod Ending
+mod Foreign
 mod Owed

@@ -16,6 +16,6 @@ pub use served::{MOST_SERVED_BYTES, serve_wanted};
 pub use showing::look_shown;
 pub use terms::Terms;
 pub use tracker_http::{
-    Desk, Journal, Plan, ServeFault, Told, WireFault, journalled, open_again, read_operator,
-    serve_one,
+    Asking, Desk, Journal, Plan, ServeFault, Told, WireFault, journalled, open_again, read_asked,
+    read_operator, serve_one,
 };

@@ -4,7 +4,7 @@ ghost use Rattle.std.specs.Io.KnownBytes.{Appends};
 ghost use Rattle.plan_basics.specs.Watched.{inner_of, failed_of, AppendsBeginning};
 ghost use Rattle.desk_journal.specs.Lines.{entries_of};
 ghost use Rattle.tracker_http.specs.Continuing.{Continues};
-ghost use Rattle.desk_serving.specs.Served.{Ends, Serves, Stands, Unanswered};
+ghost use Rattle.desk_serving.specs.Served.{Ends, EndsForeign, IsForeignInput, Serves, Stands, Unanswered};
 
 use super::showing::look_shown;
 use super::terms::Terms;
@@ -29,12 +29,14 @@ fn wanted_reply<R: Read, J: Write, S: Alter + Drop>(
 ) -> Result<Vec<u8>, ServeFault>
     ensures made { IfOk result (λ reply. (lines : List ℕ) × Serves S.Store terms.now (R.remaining (inner_of reader.old)) desk.old reply.items lines desk.new
         × Appends (entries_of J.contents journal.old) (entries_of J.contents journal.new) lines) }
-    ensures broken { IfErr result (λ fault. Unanswered S.Store terms.now.ahead (R.remaining (inner_of reader.old)) fault desk.old desk.new (entries_of J.contents journal.old) (entries_of J.contents journal.new)) }
+    ensures broken { IfErr result (λ fault. Unanswered S.Store terms.now (R.remaining (inner_of reader.old)) fault desk.old desk.new (entries_of J.contents journal.old) (entries_of J.contents journal.new)) }
     ensures reader_fault { (result ≡ Err ServeFault.Reader) ↔ (failed_of reader.new ≡ true) }
     ensures continues { Continues S.Store desk.old desk.new }
 {
     match read_wanted(alloc, reader, MOST_SERVED_BYTES) {
-        Ok(Ok(Wanted::Asked(asked))) => asked_reply(alloc, journal, desk, &asked, terms.ahead),
+        Ok(Ok(Wanted::Asked(asking))) => {
+            asked_reply(alloc, journal, desk, &asking, terms.ahead, terms.bound)
+        }
         Ok(Ok(Wanted::Look(look))) => Ok(look_shown(alloc, desk, &look, &terms.known)?),
         Ok(Err(test)) => Ok(Told::Fault(test.status()).reply(alloc)?),
         Err(ExchangeFault::Memory) => Err(ServeFault::Memory),
@@ -59,7 +61,8 @@ fn sent<W: Write>(writer: &mut Watched<W>, reply: &[u8]) -> Result<(), ServeFaul
 
 /// Serves one request by these terms: as `serve_one` of `tracker_http`, but that it may look at something too, by which nothing
 /// changes; that a report or an operator's request is asked within the clock's guard, and between two lines of the journal,
-/// where one is kept; and that a body may have `MOST_SERVED_BYTES`. Faults of earlier calls of the reader and the writer are forgotten.
+/// where one is kept; that a request is turned away which is foreign, or a report in another's name where trackers are bound to
+/// theirs: the desk isn't asked, and no line is taken (`foreign`); and that a body may have `MOST_SERVED_BYTES`. Faults of earlier calls of the reader and the writer are forgotten.
 ///
 /// `Reader` where the reader answered a fault: nothing is written, no line is taken, and nothing changes. `Writer` where the
 /// writer did: a beginning of the reply is written, and the request acted as the reply says. `Memory` for want of memory, and
@@ -77,6 +80,7 @@ pub fn serve_wanted<R: Read, W: Write, J: Write, S: Alter + Drop>(
 ) -> Result<(), ServeFault>
     ensures ends { Ends S.Store terms.now result (R.remaining (inner_of reader.old)) desk.old desk.new (W.contents (inner_of writer.old), W.contents (inner_of writer.new)) (entries_of J.contents journal.old, entries_of J.contents journal.new) }
     ensures stands { Stands (R.remaining (inner_of reader.old)) desk.old desk.new (entries_of J.contents journal.old) (entries_of J.contents journal.new) }
+    ensures foreign { IsForeignInput (R.remaining (inner_of reader.old)) → EndsForeign result desk.old desk.new (W.contents (inner_of writer.old), W.contents (inner_of writer.new)) (entries_of J.contents journal.old, entries_of J.contents journal.new) }
     ensures continues { Continues S.Store desk.old desk.new }
     ensures reader_fault { (result ≡ Err ServeFault.Reader) ↔ (failed_of reader.new ≡ true) }
     ensures writer_fault { (result ≡ Err ServeFault.Writer) ↔ (failed_of writer.new ≡ true) }

@@ -1,4 +1,5 @@
 pub mod Texts
+pub mod Guarded
 pub mod Fronts
 pub mod Answered
 pub mod WantedAnswers

@@ -4,5 +4,7 @@ pub mod Routes
 pub mod Routers
 pub mod Fields
 pub mod Tests
+pub mod Foreign
+pub mod Requesters
 pub mod Looks
 pub mod Heads

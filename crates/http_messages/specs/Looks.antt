@@ -1,5 +1,5 @@
 -- Which paths are looks', beside the routes, and what a request comes to that may be one.
-use Rattle.std.specs.Prelude.{◌≡◌, ◌≢◌, ◌⊎◌, ℕ, ◌<◌, List, ◌++◌, length, codes, Result, Ok, Err}
+use Rattle.std.specs.Prelude.{◌≡◌, ◌≢◌, ◌⊎◌, ℕ, ◌<◌, List, ◌++◌, length, codes, Option, Result, Ok, Err, option_map, string_bytes}
 use Rattle.percent_encoding.specs.Percent.{percent_decode}
 use Rattle.http_messages.specs.declared.asking.Rejection.{Rejection}
 use Rattle.http_messages.specs.declared.asking.Rejection.TheVariants as test
@@ -10,6 +10,8 @@ use Rattle.http_messages.specs.declared.looks.Page.TheVariants as page
 use Rattle.http_messages.specs.declared.statuses.Method.TheVariants as method
 use Rattle.http_messages.specs.declared.wanting.Wanted.{Wanted}
 use Rattle.http_messages.specs.declared.wanting.Wanted.TheVariants as wanted
+use Rattle.http_messages.specs.Foreign.{IsForeign}
+use Rattle.http_messages.specs.Requesters.{IsBy, IsMisnamed}
 use Rattle.http_messages.specs.Routes.{path_of}
 use Rattle.http_messages.specs.Statuses.{method_text}
 use Rattle.http_messages.specs.Tests.{Request, AsksIn, FailsIn, IsRequestIn}
@@ -49,11 +51,18 @@ abbrev pub LooksAt : List ℕ → List ℕ → Result Look Rejection → Type 0
 LooksAt m target (Ok l) = IsLookPath l (path_of target) × (m ≡ method_text method.Get)
 LooksAt m target (Err t) = ((l : Look) × IsLookPath l (path_of target)) × (m ≢ method_text method.Get) × (t ≡ test.OtherMethod method.Get)
 
--- what a request comes to: what it looks at; or, where its path is no look's, what it asks for, or the first test that it fails
+-- what a request by this requester comes to: what it looks at; or, where its path is no look's, what it asks for, or the first test that it fails
+abbrev pub ComesToOwn : ℕ → Request → Option (List ℕ) → Result Wanted Rejection → Type 0
+ComesToOwn most request by (Ok (wanted.Look l)) = LooksAt request.method request.target (Ok l)
+ComesToOwn most request by (Ok (wanted.Asked a)) = NoLook request.target × AsksIn most request a.asked × (option_map string_bytes a.by ≡ by)
+ComesToOwn most request by (Err t) = LooksAt request.method request.target (Err t) ⊎ (NoLook request.target × FailsIn most request t)
+
+-- what a request comes to: before all else, that it is foreign, or names who makes it in no form; or what it comes to by its requester
 abbrev pub ComesToWanted : ℕ → Request → Result Wanted Rejection → Type 0
-ComesToWanted most request (Ok (wanted.Look l)) = LooksAt request.method request.target (Ok l)
-ComesToWanted most request (Ok (wanted.Asked a)) = NoLook request.target × AsksIn most request a
-ComesToWanted most request (Err t) = LooksAt request.method request.target (Err t) ⊎ (NoLook request.target × FailsIn most request t)
+ComesToWanted most request answer =
+    (IsForeign request × (answer ≡ Err test.Foreign))
+    ⊎ (((¬ IsForeign request) × IsMisnamed request × (answer ≡ Err test.Misnamed))
+    ⊎ ((¬ IsForeign request) × (by : Option (List ℕ)) × IsBy request by × ComesToOwn most request by answer))
 
 -- what an input comes to: that of the request in it, or that it has none
 abbrev pub AnswersWanted : ℕ → List ℕ → Result Wanted Rejection → Type 0

@@ -14,6 +14,7 @@ method_text method.Post = codes "POST"
 abbrev pub code_of : Status → ℕ
 code_of status.Success = 200
 code_of status.BadRequest = 400
+code_of status.Forbidden = 403
 code_of status.NotFound = 404
 code_of (status.MethodNotAllowed m) = 405
 code_of status.Conflict = 409
@@ -27,6 +28,7 @@ code_of status.ServiceUnavailable = 503
 abbrev pub phrase_of : Status → List ℕ
 phrase_of status.Success = codes "OK"
 phrase_of status.BadRequest = codes "Bad Request"
+phrase_of status.Forbidden = codes "Forbidden"
 phrase_of status.NotFound = codes "Not Found"
 phrase_of (status.MethodNotAllowed m) = codes "Method Not Allowed"
 phrase_of status.Conflict = codes "Conflict"

@@ -73,9 +73,11 @@ pub record HasGoodLengthIn (most : ℕ) (request : Request) (n : ℕ) : Type 0 w
   pub tells : HasLength request n
   pub within : n ≤ most
 
--- which test is the first that the request fails
+-- which test is the first that the request fails; who makes it is asked at a desk that is served for good alone
 abbrev pub FailsIn : ℕ → Request → Rejection → Type 0
 FailsIn most request test.NoHead = ⊥
+FailsIn most request test.Foreign = ⊥
+FailsIn most request test.Misnamed = ⊥
 FailsIn most request test.OtherForm = ¬ IsOriginForm request.target
 FailsIn most request test.NoRoute = IsOriginForm request.target × ((r : Route) → ¬ Matches (path_of request.target) r)
 FailsIn most request (test.OtherMethod m) = IsOriginForm request.target
@@ -89,6 +91,8 @@ FailsIn most request test.CutShort = (n : ℕ) × HasGoodLengthIn most request n
 -- the status of the reply where a test is the first that fails
 abbrev pub status_of : Rejection → Status
 status_of test.NoHead = status.BadRequest
+status_of test.Foreign = status.Forbidden
+status_of test.Misnamed = status.BadRequest
 status_of test.OtherForm = status.BadRequest
 status_of test.NoRoute = status.NotFound
 status_of (test.OtherMethod m) = status.MethodNotAllowed m

@@ -42,6 +42,10 @@ pub enum Asked {
 pub enum Rejection {
     /// The input begins with no head that is short enough.
     NoHead,
+    /// A page of a browser makes the request, or it is to another name than this machine's own.
+    Foreign,
+    /// Who makes the request is said more than once, or in no form of it.
+    Misnamed,
     /// The target doesn't begin with a slash.
     OtherForm,
     /// The path is no route's.
@@ -66,8 +70,12 @@ impl Rejection {
         ensures { result ≡ status_of self }
     {
         match self {
-            Rejection::NoHead | Rejection::OtherForm | Rejection::BadLength | Rejection::CutShort =>
-                Status::BadRequest,
+            Rejection::NoHead
+            | Rejection::Misnamed
+            | Rejection::OtherForm
+            | Rejection::BadLength
+            | Rejection::CutShort => Status::BadRequest,
+            Rejection::Foreign => Status::Forbidden,
             Rejection::NoRoute => Status::NotFound,
             Rejection::OtherMethod(method) => Status::MethodNotAllowed(method),
             Rejection::Coded => Status::NotImplemented,

@@ -4,11 +4,14 @@
 
 mod asking;
 mod bodies;
+mod bytes;
 mod fields;
 mod heads;
+mod hosts;
 mod looks;
 mod reading;
 mod replies;
+mod requesters;
 mod routes;
 mod statuses;
 mod wanting;
@@ -19,5 +22,6 @@ pub use asking::{
 };
 pub use looks::{Look, Page};
 pub use replies::{page_reply_bytes, reply_bytes, text_reply_bytes};
+pub use requesters::MOST_REQUESTER_BYTES;
 pub use statuses::{Method, Status};
-pub use wanting::{Wanted, read_wanted};
+pub use wanting::{Asking, Wanted, read_wanted};

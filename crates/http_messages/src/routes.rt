@@ -7,6 +7,7 @@ ghost use Rattle.http_messages.specs.Statuses.{method_text};
 ghost use Rattle.http_messages.specs.Tests.{Takes, FailsIn};
 
 use crate::asking::Rejection;
+use crate::bytes::before;
 use crate::statuses::Method;
 use matchit::{InsertError, Router};
 use percent_encoding::percent_decode;
@@ -40,10 +41,7 @@ const READY: &[u8] = b"/ready/";
 pub(crate) fn path_of(target: &[u8]) -> &[u8]
     ensures { result.now ≡ path_before target.now }
 {
-    match target.iter().position(|byte| *byte == b'?') {
-        Some(end) => &target[..end],
-        None => target,
-    }
+    before(target, b'?')
 }
 
 /// The routes, each under its path.

@@ -33,6 +33,8 @@ pub enum Status {
     Success,
     /// The bytes are no request.
     BadRequest,
+    /// The request isn't this machine's own, or in another's name.
+    Forbidden,
     /// The path is none of the desk's.
     NotFound,
     /// The path takes this method and no other.
@@ -58,6 +60,7 @@ impl Status {
         match self {
             Status::Success => StatusCode::OK,
             Status::BadRequest => StatusCode::BAD_REQUEST,
+            Status::Forbidden => StatusCode::FORBIDDEN,
             Status::NotFound => StatusCode::NOT_FOUND,
             Status::MethodNotAllowed(_) => StatusCode::METHOD_NOT_ALLOWED,
             Status::Conflict => StatusCode::CONFLICT,

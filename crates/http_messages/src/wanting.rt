@@ -1,8 +1,8 @@
 // What a request wants, where it may look at something beside what it may ask for.
-ghost use Rattle.std.specs.Prelude.{◌≡◌, ◌↔◌, Err, true, false, IfOk, IfSome, MatchResult};
+ghost use Rattle.std.specs.Prelude.{◌≡◌, ◌↔◌, Err, true, false, IfOk, IfSome, option_map, string_bytes};
 ghost use Rattle.plan_basics.specs.Watched.{inner_of, failed_of};
 ghost use Rattle.http_messages.specs.Heads.{request_at};
-ghost use Rattle.http_messages.specs.Looks.{AnswersWanted, ComesToWanted};
+ghost use Rattle.http_messages.specs.Looks.{AnswersWanted, ComesToOwn, ComesToWanted};
 
 use crate::asking::{Asked, ExchangeFault, MOST_FIELDS, MOST_HEAD_BYTES, Rejection, answer_of};
 use crate::fields::Head;
@@ -13,16 +13,52 @@ use plan_basics::Watched;
 use std::alloc::Global;
 use std::io::Read;
 
+/// What a request asks the desk for, and who makes it.
+#[derive(Debug, Drop, PartialEq, Eq)]
+pub struct Asking {
+    /// What it asks for.
+    pub asked: Asked,
+    /// Who makes it: 1 to 64 letters, digits and `.`, `_`, `@`, `-`. None where what is sent doesn't say so; lists, which aren't
+    /// sent, are asked by nobody.
+    pub by: Option<String>,
+}
+
 /// What a request wants, its form being in order.
 #[derive(Debug, Drop, PartialEq, Eq)]
 pub enum Wanted {
     /// That the desk be asked.
-    Asked(Asked),
+    Asked(Asking),
     /// That something be shown, by which nothing changes.
     Look(Look),
 }
 
-/// What the request with this head comes to.
+/// What the request with this head comes to, by this requester.
+fn own_wanted<R: Read>(
+    alloc: Global,
+    reader: &mut Watched<R>,
+    head: &Head<'_>,
+    by: Option<String>,
+    most: usize,
+) -> Result<Result<Wanted, Rejection>, ExchangeFault>
+    requires fresh { failed_of reader.old ≡ false }
+    ensures answer { IfOk result (λ answer. IfSome (R.remaining (inner_of reader.old)) (λ left.
+        ComesToOwn most (request_at head.now.bytes.now head.now.headers.now head.now.spans left) (option_map string_bytes by) answer)) }
+    ensures reader_fault { (result ≡ Err ExchangeFault.Reader) ↔ (failed_of reader.new ≡ true) }
+{
+    let looked = look_of_line(alloc, head.method(), head.target())?;
+    match looked {
+        Some(Ok(look)) => return Ok(Ok(Wanted::Look(look))),
+        Some(Err(test)) => return Ok(Err(test)),
+        None => {}
+    }
+    match answer_of(alloc, reader, head, most)? {
+        Ok(asked) => Ok(Ok(Wanted::Asked(Asking { asked, by }))),
+        Err(test) => Ok(Err(test)),
+    }
+}
+
+/// What the request with this head comes to. Its fields are judged first: before its method and its path, and before anything
+/// more is read.
 fn wanted_of<R: Read>(
     alloc: Global,
     reader: &mut Watched<R>,
@@ -34,16 +70,18 @@ fn wanted_of<R: Read>(
         ComesToWanted most (request_at head.now.bytes.now head.now.headers.now head.now.spans left) answer)) }
     ensures reader_fault { (result ≡ Err ExchangeFault.Reader) ↔ (failed_of reader.new ≡ true) }
 {
-    let looked = look_of_line(alloc, head.method(), head.target())?;
-    match looked {
-        Some(Ok(look)) => Ok(Ok(Wanted::Look(look))),
-        Some(Err(test)) => Ok(Err(test)),
-        None => Ok(answer_of(alloc, reader, head, most)?.map(Wanted::Asked)),
+    if head.is_foreign() {
+        return Ok(Err(Rejection::Foreign));
+    }
+    match head.requester(alloc)? {
+        Ok(by) => own_wanted(alloc, reader, head, by, most),
+        Err(test) => Ok(Err(test)),
     }
 }
 
 /// Reads one request: what it wants, or the first test of its form that it fails, in whatever pieces it comes. As
-/// `read_exchange`, but that it may look at something too.
+/// `read_exchange`, but that it may look at something too, that it is turned away where it is foreign, and that it may say who
+/// makes it.
 pub fn read_wanted<R: Read>(
     alloc: Global,
     reader: &mut Watched<R>,

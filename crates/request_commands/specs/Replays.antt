@@ -1,5 +1,5 @@
 -- What `play` makes of a journal, line by line, and what it shows.
-use Rattle.std.specs.Prelude.{◌≡◌, ◌≢◌, ◌⊎◌, ℕ, ◌+◌, List, [], ◌++◌, Option, Some, None, Result, Ok, Err, codes, decimal, ℤ}
+use Rattle.std.specs.Prelude.{◌≡◌, ◌≢◌, ◌⊎◌, ℕ, ◌+◌, ◌-◌, List, [], ◌++◌, length, slice_get, Option, Some, None, Result, Ok, Err, codes, decimal, ℤ}
 use Rattle.std.specs.Io.KnownBytes.{Appends}
 use Rattle.plan_basics.specs.declared.Refusal.{Refusal}
 use Rattle.plan_basics.specs.declared.keys.OpKey.{OpKey}
@@ -7,6 +7,7 @@ use Rattle.plan_records.specs.plan_model.specs.Contents.{Contents}
 use Rattle.plan_records.specs.Answer.{accepted, refused}
 use Rattle.plan_records.specs.Run.{State, usable}
 use Rattle.desk_journal.specs.Entries.{IsEntry}
+use Rattle.desk_journal.specs.Lines.{line_end}
 use Rattle.desk_journal.specs.declared.entries.Entry.{Entry}
 use Rattle.desk_journal.specs.declared.entries.Entry.TheVariants as entry
 use Rattle.http_messages.specs.declared.asking.Asked.{Asked}
@@ -28,6 +29,10 @@ use Rattle.request_commands.specs.declared.replaying.Outcome.TheVariants as outc
 use Rattle.request_commands.specs.declared.replaying.Step.{Step}
 use Rattle.request_commands.specs.declared.replaying.Step.TheVariants as step
 use Rattle.request_commands.specs.declared.replaying.Waiting.{Waiting}
+
+-- the lines of a journal and, behind them, those of one more file: its last line ends, also where a stop cut it short
+abbrev pub joined : List ℕ → List ℕ → List ℕ
+joined before file = before ++ file ++ line_end (slice_get file (length file - 1))
 
 -- what is shown of a request that may have acted: the number of its line
 abbrev pub acted_line : ℕ → List ℕ

@@ -12,5 +12,5 @@ mod requests;
 pub use loading::{check, load};
 pub use loads::load_into;
 pub use playing::play_file;
-pub use replaying::replay_file;
+pub use replaying::replay_files;
 pub use requests::{extend, make};

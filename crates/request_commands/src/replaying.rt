@@ -13,7 +13,7 @@ ghost use Rattle.command_answers.specs.declared.endings.Ending.{Ending};
 ghost use Rattle.desk_journal.specs.declared.entries.Entry.{Entry};
 ghost use Rattle.command_answers.specs.Lines.{IsNumberShown};
 ghost use Rattle.request_commands.specs.declared.replaying.Step.{Step};
-ghost use Rattle.request_commands.specs.Replays.{Compares, IsEntryTaken, IsLineTaken, IsOutcome, IsPlanReplayed, IsReplayed, TakesAnswer, acted_line, parting_lines, place_line, same_line, unanswered};
+ghost use Rattle.request_commands.specs.Replays.{Compares, IsEntryTaken, IsLineTaken, IsOutcome, IsPlanReplayed, IsReplayed, TakesAnswer, acted_line, joined, parting_lines, place_line, same_line, unanswered};
 
 use command_answers::{Ending, Fault, first_line, tell_no_desk, tell_number, text_of_file};
 use command_desks::{Desk, loaded_desk};
@@ -345,15 +345,36 @@ fn replay_plan<W: Write>(
     }
 }
 
-/// Takes the journal of a file at a desk in memory at which a plan is loaded.
-pub fn replay_file<W: Write>(
+// Adds a file of a journal to those before it. Its last line, which a stop may have cut short, ends there.
+fn add_file(journal: &mut Vec<u8>, file: &[u8]) -> Result<(), AllocError>
+    ensures { OnOk result (journal.new.items ≡ joined journal.old.items file.now) }
+{
+    journal.extend_from_slice(file)?;
+    match file.last().copied() {
+        Some(byte) if byte != b'\n' => Ok(journal.push(b'\n')?),
+        _ => Ok(()),
+    }
+}
+
+// The lines of a journal's files, one file after the other.
+fn lines_of_files(rt: &HostRuntime, paths: &[&str]) -> Result<Vec<u8>, Fault> {
+    let mut journal = Vec::new(rt.alloc());
+    for path in paths {
+        let file = text_of_file(rt, *path)?;
+        add_file(&mut journal, &file)?;
+    }
+    Ok(journal)
+}
+
+/// Takes a journal at a desk in memory at which a plan is loaded: the lines of these files, in this order.
+pub fn replay_files<W: Write>(
     rt: &HostRuntime,
-    path: &str,
+    paths: &[&str],
     at: i64,
     draft: Option<PlanDraft>,
     out: &mut Watched<W>,
 ) -> Result<Ending, Fault> {
-    match text_of_file(rt, path) {
+    match lines_of_files(rt, paths) {
         Ok(journal) => replay_plan(rt.alloc(), at, draft, journal.as_slice(), out),
         Err(fault) => Err(fault),
     }

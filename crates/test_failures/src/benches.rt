@@ -101,6 +101,7 @@ pub fn served<S: Alter + Drop, W: Write>(
 fn a_day_ahead(alloc: Global) -> Terms {
     Terms {
         ahead: Some(1440),
+        bound: false,
         known: KnownStarts::none(alloc),
     }
 }

@@ -6,5 +6,6 @@ pub mod Told
 pub mod Lists
 pub mod Exchange
 pub mod Continuing
+pub mod Readings
 pub mod Guard
 pub mod Journalled

@@ -1,39 +1,56 @@
 // A desk that is asked between two lines of a journal.
-ghost use Rattle.std.specs.Prelude.{◌≡◌, ◌≢◌, Err, IfOk, OnOk};
+ghost use Rattle.std.specs.Prelude.{◌≡◌, ◌≢◌, Err, IfOk, OnOk, option_map};
 ghost use Rattle.std.specs.Io.KnownBytes.{Appends, Keeps};
 ghost use Rattle.plan_basics.specs.Watched.{AppendsBeginning};
 ghost use Rattle.desk_journal.specs.Lines.{entries_of, line_of, request_data};
 ghost use Rattle.desk_journal.specs.Journals.{Journals, Stands};
 ghost use Rattle.tracker_http.specs.Continuing.{Continues};
+ghost use Rattle.tracker_http.specs.Readings.{ReadsFor};
 ghost use Rattle.tracker_http.specs.Journalled.{answer_lines, clock_of, request_lines, told_line, Takes};
 
-use super::asking::tell_within;
+use super::asking::tell_read;
+use super::reading::{Reading, is_brief, requester_of};
 use super::told::Told;
 use desk_journal::{Journal, JournalFault, answer_line, request_line};
 use desk_tables::{Desk, Plan};
-use http_messages::Asked;
+use http_messages::{Asked, Asking};
 use sqlite::Alter;
 use std::alloc::{AllocError, Global};
 use std::io::Write;
 
 // The line of a request at a plan.
-fn line_at(alloc: Global, plan: &Plan, path: &str, body: &[u8]) -> Result<Vec<u8>, AllocError>
-    ensures { IfOk result (λ text. text.items ≡ line_of (request_data (clock_of plan.now.plan) path.now body.now)) }
+fn line_at(
+    alloc: Global,
+    plan: &Plan,
+    by: Option<&str>,
+    path: &str,
+    body: &[u8],
+    is_brief: bool,
+) -> Result<Vec<u8>, AllocError>
+    ensures { IfOk result (λ text. text.items ≡ line_of (request_data (clock_of plan.now.plan) (option_map (λ by. by.now) by.entry) path.now is_brief body.now)) }
 {
     if !plan.is_loaded() {
-        return request_line(alloc, None, path, body);
+        return request_line(alloc, None, by, path, body, is_brief);
     }
     let clock = format!(in alloc; "{}", plan.clock())?;
-    request_line(alloc, Some(clock.as_str()), path, body)
+    request_line(alloc, Some(clock.as_str()), by, path, body, is_brief)
 }
 
-// The line of a request at a plan; none of a list.
-fn lines_before(alloc: Global, plan: &Plan, asked: &Asked) -> Result<Vec<u8>, AllocError>
-    ensures { IfOk result (λ text. text.items ≡ request_lines plan.now.plan asked.now) }
+// The line of a request at a plan, whose body was read so; none of a list.
+fn lines_before(
+    alloc: Global,
+    plan: &Plan,
+    asking: &Asking,
+    reading: &Reading,
+) -> Result<Vec<u8>, AllocError>
+    ensures { IfOk result (λ text. text.items ≡ request_lines plan.now.plan reading.now asking.now) }
 {
-    match asked {
-        Asked::Report(body) => line_at(alloc, plan, "/report", body),
-        Asked::Operator(body) => line_at(alloc, plan, "/operator", body),
+    let by = requester_of(asking);
+    match &asking.asked {
+        Asked::Report(body) => line_at(alloc, plan, by, "/report", body, is_brief(reading, body)),
+        Asked::Operator(body) => {
+            line_at(alloc, plan, by, "/operator", body, is_brief(reading, body))
+        }
         Asked::Ready(_) | Asked::Occurrences => Ok(Vec::new(alloc)),
     }
 }
@@ -61,17 +78,18 @@ fn enter_request<J: Write>(
     alloc: Global,
     journal: &mut Journal<J>,
     plan: &Plan,
-    asked: &Asked,
+    asking: &Asking,
+    reading: &Reading,
 ) -> Result<(), JournalFault>
-    ensures whole { OnOk result (Appends (entries_of J.contents journal.old) (entries_of J.contents journal.new) (request_lines plan.now.plan asked.now)) }
-    ensures beginning { result ≡ Err JournalFault.Request → AppendsBeginning (entries_of J.contents journal.old) (entries_of J.contents journal.new) (request_lines plan.now.plan asked.now) }
+    ensures whole { OnOk result (Appends (entries_of J.contents journal.old) (entries_of J.contents journal.new) (request_lines plan.now.plan reading.now asking.now)) }
+    ensures beginning { result ≡ Err JournalFault.Request → AppendsBeginning (entries_of J.contents journal.old) (entries_of J.contents journal.new) (request_lines plan.now.plan reading.now asking.now) }
     ensures memory { result ≡ Err JournalFault.Memory → Keeps (entries_of J.contents journal.old) (entries_of J.contents journal.new) }
     ensures before { result ≢ Err JournalFault.Answer }
 {
     if !journal.is_kept() {
         return Ok(());
     }
-    let lines = lines_before(alloc, plan, asked)?;
+    let lines = lines_before(alloc, plan, asking, reading)?;
     if journal.enter(&lines) {
         Ok(())
     } else {
@@ -102,24 +120,26 @@ fn enter_answer<J: Write>(
     }
 }
 
-/// Asks the desk as `tell_within` does, between the two lines of a journal, where one is kept: nothing is asked before the
+/// Asks the desk what was read so, as `tell_within` does, between the two lines of a journal, where one is kept: nothing is asked before the
 /// request's line is written, and nothing is told before the answer's is (`journals`). So a desk that isn't as it was has the
 /// request's line in its journal (`stands`).
 pub fn journalled<J: Write, S: Alter + Drop>(
     alloc: Global,
     journal: &mut Journal<J>,
     desk: &mut Desk<S>,
-    asked: &Asked,
+    asking: &Asking,
+    reading: &Reading,
     ahead: Option<u32>,
 ) -> Result<Told, JournalFault>
-    ensures journals { Journals (Takes S.Store ahead asked.now) (request_lines desk.old.plan asked.now) (answer_lines asked.now) result desk.old desk.new (entries_of J.contents journal.old) (entries_of J.contents journal.new) }
-    ensures stands { Stands (request_lines desk.old.plan asked.now) desk.old desk.new (entries_of J.contents journal.old) (entries_of J.contents journal.new) }
+    requires reading { ReadsFor asking.now.asked reading.now }
+    ensures journals { Journals (Takes S.Store ahead asking.now.asked) (request_lines desk.old.plan reading.now asking.now) (answer_lines asking.now.asked) result desk.old desk.new (entries_of J.contents journal.old) (entries_of J.contents journal.new) }
+    ensures stands { Stands (request_lines desk.old.plan reading.now asking.now) desk.old desk.new (entries_of J.contents journal.old) (entries_of J.contents journal.new) }
     ensures continues { Continues S.Store desk.old desk.new }
 {
-    enter_request(alloc, journal, desk.plan(), asked)?;
-    let Ok(told) = tell_within(alloc, desk, asked, ahead) else {
+    enter_request(alloc, journal, desk.plan(), asking, reading)?;
+    let Ok(told) = tell_read(alloc, desk, &asking.asked, reading, ahead) else {
         return Err(JournalFault::Memory);
     };
-    enter_answer(alloc, journal, asked, &told)?;
+    enter_answer(alloc, journal, &asking.asked, &told)?;
     Ok(told)
 }

@@ -17,6 +17,7 @@ mod asking;
 mod exchange;
 mod journalling;
 mod lists;
+mod reading;
 mod replying;
 mod told;
 
@@ -24,8 +25,9 @@ pub use asking::tell_within;
 pub use desk_journal::{Entry, Journal, JournalFault, read_entry};
 pub use desk_tables::{Desk, Plan, open_again};
 pub use exchange::{send, serve_one};
-pub use http_messages::Asked;
+pub use http_messages::{Asked, Asking};
 pub use journalling::{journalled, line_told};
+pub use reading::{MOST_WHOLE_BYTES, Reading, read_asked};
 pub use replying::{ServeFault, asked_reply};
 pub use request_json::{WireFault, read_operator};
 pub use told::Told;

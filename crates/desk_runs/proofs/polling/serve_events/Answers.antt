@@ -10,7 +10,7 @@ loop-event-init g c = record {
   is_finite = search rules;
   continues = continues_none g.S.Store c.args.desk.now;
   usable = λ was. was;
-  known = record { ahead = refl; going = c.requires.known };
+  known = record { ahead = refl; bound = refl; going = c.requires.known };
 }
 
 pub loop-event-preserved : goal.loop-event-preserved

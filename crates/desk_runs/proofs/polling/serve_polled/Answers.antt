@@ -6,5 +6,5 @@ pub loop-init : goal.loop-init
 loop-init g c = record {
   continues = continues_none g.S.Store c.args.desk.now;
   usable = λ was. was;
-  known = record { ahead = refl; going = c.requires.known };
+  known = record { ahead = refl; bound = refl; going = c.requires.known };
 }

@@ -3,6 +3,7 @@ use Rattle.plan_basics.specs.Watched.{inner_of}
 use Rattle.desk_journal.specs.Lines.{entries_of}
 use Rattle.tracker_http.proofs.Ended.{keeps_itself}
 use Rattle.desk_serving.proofs.Ending.{ends_sent, ends_unanswered, never_writer, stood}
+use Rattle.desk_serving.proofs.Foreign.{foreign_ends}
 use Rattle.desk_serving.proofs.served.serve_wanted.Goals as goal
 
 pub returns-in_err-reply-clause-ends : goal.returns-in_err-reply-clause-ends
@@ -42,3 +43,15 @@ returns-in_err-reply-clause-writer_fault g c =
           (entries_of g.J.Write.contents c.args.journal.now) (entries_of g.J.Write.contents c.wanted_reply.new.journal) (Unit {0}) c.from_residual.result f is c.in_err-reply.ensures.broken same),
       λ failed. let wrong : false ≡ true = cc in absurd cc,
     )
+
+pub returns-in_err-reply-clause-foreign : goal.returns-in_err-reply-clause-foreign
+returns-in_err-reply-clause-foreign g c =
+    foreign_ends g.S.Store c.args.terms.now (g.R.Read.remaining (inner_of c.args.reader.now)) c.args.desk.now c.wanted_reply.new.desk c.from_residual.result
+    (g.W.Write.contents (inner_of c.args.writer.now), g.W.Write.contents (inner_of c.clear.new.self)) (entries_of g.J.Write.contents c.args.journal.now, entries_of g.J.Write.contents c.wanted_reply.new.journal)
+    (returns-in_err-reply-clause-ends g c)
+
+pub returns-clause-foreign : goal.returns-clause-foreign
+returns-clause-foreign g c =
+    foreign_ends g.S.Store c.args.terms.now (g.R.Read.remaining (inner_of c.args.reader.now)) c.args.desk.now c.wanted_reply.new.desk c.sent.result
+    (g.W.Write.contents (inner_of c.args.writer.now), g.W.Write.contents (inner_of c.sent.new.writer)) (entries_of g.J.Write.contents c.args.journal.now, entries_of g.J.Write.contents c.wanted_reply.new.journal)
+    (returns-clause-ends g c)

@@ -15,10 +15,10 @@ returns-in-Ok-Ok-Asked-clause-made g c =
     let known = g.R.Read.remaining (inner_of c.args.reader.now) in
     let outer = w.field-0-is in
     let inner = w.field-0-0-is in
-    let named = w.asked-is in
-    let same : w.field-0 ≡ Ok (wanted.Asked w.asked) = cc in
+    let named = w.asking-is in
+    let same : w.field-0 ≡ Ok (wanted.Asked w.asking) = cc in
     serves_asked g.S.Store c.args.terms.now known c.args.desk.now c.asked_reply.new.desk (entries_of g.J.Write.contents c.args.journal.now) (entries_of g.J.Write.contents c.asked_reply.new.journal)
-    w.asked (subst (IsWanted known) same w.ensures.answer) c.asked_reply.result c.asked_reply.ensures.made
+    w.asking (subst (IsWanted known) same w.ensures.answer) c.asked_reply.result c.asked_reply.ensures.made
 
 pub returns-in-Ok-Ok-Asked-clause-broken : goal.returns-in-Ok-Ok-Asked-clause-broken
 returns-in-Ok-Ok-Asked-clause-broken g c =
@@ -26,10 +26,10 @@ returns-in-Ok-Ok-Asked-clause-broken g c =
     let known = g.R.Read.remaining (inner_of c.args.reader.now) in
     let outer = w.field-0-is in
     let inner = w.field-0-0-is in
-    let named = w.asked-is in
-    let same : w.field-0 ≡ Ok (wanted.Asked w.asked) = cc in
+    let named = w.asking-is in
+    let same : w.field-0 ≡ Ok (wanted.Asked w.asking) = cc in
     breaks_asked g.S.Store c.args.terms.now known c.args.desk.now c.asked_reply.new.desk (entries_of g.J.Write.contents c.args.journal.now) (entries_of g.J.Write.contents c.asked_reply.new.journal)
-    w.asked (subst (IsWanted known) same w.ensures.answer) c.asked_reply.result c.asked_reply.ensures.broken c.asked_reply.ensures.fault
+    w.asking (subst (IsWanted known) same w.ensures.answer) c.asked_reply.result c.asked_reply.ensures.broken c.asked_reply.ensures.fault
 
 pub returns-in_ok-look_shown-in-Ok-Ok-Look-clause-made : goal.returns-in_ok-look_shown-in-Ok-Ok-Look-clause-made
 returns-in_ok-look_shown-in-Ok-Ok-Look-clause-made g c =

@@ -5,12 +5,10 @@ use Rattle.tracker_http.proofs.Continuing.{called}
 use Rattle.tracker_http.proofs.asking.tell_operator.Goals as goal
 
 pub returns-clause-continues : goal.returns-clause-continues
-returns-clause-continues g c = record {
-  continues = called g.S.Store c.args.desk.now c.call.new.self (answer_of c.call.result) c.call.ensures.clean c.call.ensures.tables _ c.call.ensures.survives;
-  stays_open = c.call.ensures.is_open;
-}
+returns-clause-continues g c =
+    called g.S.Store c.args.desk.now c.call.new.self (answer_of c.call.result) c.call.ensures.clean c.call.ensures.tables _ c.call.ensures.survives
 
 pub returns-clause-told : goal.returns-clause-told
-returns-clause-told g c =
-    let near : ¬ IsTooFar c.args.ahead c.args.desk.now.plan c.in-Some.request.at = λ far. let wrong : false ≡ true = rw c.if-is_too_far.false at ((rw c.plan.ensures.plan at c.is_too_far.ensures).1 far) in absurd cc in
-    inl (c.in-Some.request, rw c.in-Some.is at c.in_ok-request.ensures.request, inr (near, c.call.ensures.answers))
+returns-clause-told g c = λ body reads.
+    let near : ¬ IsTooFar c.args.ahead c.args.desk.now.plan c.in-Operator.request.at = λ far. let wrong : false ≡ true = rw c.if-is_too_far.false at ((rw c.plan.ensures.plan at c.is_too_far.ensures).1 far) in absurd cc in
+    inl (c.in-Operator.request, rw c.in-Operator.is at reads, inr (near, c.call.ensures.answers))

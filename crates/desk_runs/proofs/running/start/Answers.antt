@@ -1,6 +1,6 @@
 use Rattle.plan_basics.specs.Watched.{inner_of}
 use Rattle.desk_runs.proofs.Ending.{refused_shown}
-use Rattle.desk_runs.proofs.running.run.Goals as goal
+use Rattle.desk_runs.proofs.running.start.Goals as goal
 
 pub returns-in-Some-Refused-clause-ending : goal.returns-in-Some-Refused-clause-ending
 returns-in-Some-Refused-clause-ending g c =
