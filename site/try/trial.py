@@ -1,10 +1,10 @@
-"""What trials of the site stand on, the site's own modules too: a folder with a desk, trackers over it, what its journal tells."""
+"""What trials of the site stand on, the site's own modules too: a folder with a desk, trackers over it, what its journal
+tells."""
 import json
 import os
 import random
 import shutil
 import signal
-import socket
 import subprocess
 import sys
 import tempfile
@@ -17,7 +17,7 @@ from pathlib import Path
 HERE = Path(__file__).resolve().parent.parent
 sys.path.insert(0, str(HERE))
 
-from common import ALWAYS, PROGRAM, Desk, key_of, moment, words_of
+from common import ALWAYS, PROGRAM, Desk, NoAnswer, free_port, key_of, moment, words_of
 
 os.environ["TZ"] = "UTC"        # (one zone for all that is started)
 time.tzset()
@@ -100,12 +100,6 @@ def plan_of(workstations, *texts):
     """A plan: workstations that are always open, of each name its attribute and servers, and other records."""
     return "".join(f"W,{name},{attribute},,,,,,,\nI,{name},{ALWAYS},{servers},0,0,,,\n"
                    for name, (attribute, servers) in workstations.items()) + "".join(texts)
-
-
-def free_port():
-    with socket.socket() as probe:
-        probe.bind(("127.0.0.1", 0))
-        return probe.getsockname()[1]
 
 
 def run(*words, **more):
@@ -248,6 +242,36 @@ class Site:
             except OSError:
                 pass                    # its end was told meanwhile
         return bool(runners) and kill_those(self.inside([chance.choice(runners)]))
+
+
+@contextmanager
+def replicas(sites, patience="2"):
+    """An etcd of one member, and a replica before the desk of each site: their addresses."""
+    etcd, peer, *addresses = [f"127.0.0.1:{free_port()}" for _ in range(2 + len(sites))]
+    programs = [["etcd", "--name", "m1", "--data-dir", "etcd", "--listen-client-urls", f"http://{etcd}",
+                 "--advertise-client-urls", f"http://{etcd}", "--listen-peer-urls", f"http://{peer}",
+                 "--initial-advertise-peer-urls", f"http://{peer}", "--initial-cluster", f"m1=http://{peer}"]]
+    programs += [[HERE / "replica", "--name", f"m{at}", "--desk", site.address, "--etcd", etcd, "--listen", address,
+                  "--patience", patience] for at, (site, address) in enumerate(zip(sites, addresses), 1)]
+    processes = []
+    try:
+        for words, site in zip(programs, [sites[0], *sites]):
+            with open(site.folder / "replica.told", "ab") as told:
+                processes.append(subprocess.Popen([str(word) for word in words], cwd=site.folder, stdout=told, stderr=told))
+        for address in addresses:
+            wait_until(lambda: has_log(address), "a replica", 0.2)
+        yield addresses
+    finally:
+        for process in processes:
+            kill(process)
+
+
+def has_log(address):
+    """Whether a replica has found the log."""
+    try:
+        return Desk(address).list("/log")["head"] is not None
+    except NoAnswer:
+        return False
 
 
 def children_of(parents):
