@@ -1,5 +1,6 @@
 """What trials of the site stand on, the site's own modules too: a folder with a desk, trackers over it, what its journal
 tells."""
+import ctypes
 import json
 import os
 import random
@@ -25,6 +26,8 @@ LOOKS = ("/health", "/occurrences", "/ready/{workstation}", "/started", "/starte
          "/report/errors", "/report/late", "/report/ready/{workstation}", "/show/started", "/show/resources", "/show/workstations",
          "/show/trackers", "/show/operations/{occurrence}", "/why/{occurrence}/010", "/forecast", "/board")
 PATIENCE = float(os.environ.get("PATIENCE", 60))        # seconds after which what was to come is missed
+NEW_MOUNTS = 0x20000
+FAKETIME = next(Path("/usr/lib").glob("*/faketime/libfaketime.so.1"), None)     # Debian's faketime
 
 
 class Wrong(Exception):
@@ -132,6 +135,7 @@ class Site:
 
     def __init__(self, program, folder):
         self.program, self.folder, self.started, self.process = program, Path(folder).resolve(), [], None
+        self.journal = self.folder / "night.journal"
         self.address = f"127.0.0.1:{free_port()}"
         self.desk = Desk(self.address)
 
@@ -151,7 +155,7 @@ class Site:
         """A desk that listens."""
         port = self.address.rpartition(":")[2]
         self.process = subprocess.Popen(
-            [self.program, "desk", "--db", "night.db", "--port", port, "--journal", "night.journal", *words],
+            [self.program, "desk", "--db", "night.db", "--port", port, "--journal", self.journal, *words],
             cwd=self.folder, stdout=subprocess.PIPE, stderr=subprocess.PIPE)
         told = self.process.stdout.readline()
         judge(told == b"listening\n", "a desk that listens", told, told or self.process.stderr.read())
@@ -189,7 +193,7 @@ class Site:
     def answered(self):
         """Each request in the journal with its status: None where no answer's line follows."""
         told = []
-        for line in (self.folder / "night.journal").read_text().splitlines():
+        for line in self.journal.read_text().splitlines():
             try:
                 entry = json.loads(line)
             except ValueError:
@@ -320,3 +324,13 @@ def room():
     finally:
         shutil.rmtree(folder, ignore_errors=True)
 
+
+@contextmanager
+def small_disk(folder, size):
+    """A disk of so many bytes at a folder, which this program and what it starts have alone. It needs root."""
+    judge(ctypes.CDLL(None).unshare(NEW_MOUNTS) == 0, "mounts of its own")
+    judge(os.system(f"mount --make-rprivate / && mount -t tmpfs -o size={size} tmpfs {folder}") == 0, "a small disk")
+    try:
+        yield
+    finally:
+        os.system(f"umount {folder}")
