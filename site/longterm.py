@@ -250,5 +250,5 @@ def judge_awaits(plan, records, standing, told):
             waiting[fields[4]] += 1
     for workstation, count in sorted(waiting.items()):
         if count > MOST_SERVERS:
-            told.fault(plan.times.awaits[workstation], f"awaits {workstation}: {count} operations may wait there at once, and it has "
-                       f"{MOST_SERVERS} servers: name more workstations")
+            told.fault(plan.times.awaits[workstation], f"awaits {workstation}: {count} operations may wait there at once, and it "
+                       f"has {MOST_SERVERS} servers: name more workstations")
