@@ -10,6 +10,7 @@ import subprocess
 import sys
 import tempfile
 import time
+from concurrent.futures import ThreadPoolExecutor
 from contextlib import contextmanager
 from importlib.machinery import SourceFileLoader
 from importlib.util import module_from_spec, spec_from_loader
@@ -65,6 +66,27 @@ def module_of(name):
     module = module_from_spec(spec_from_loader(name, loader))
     loader.exec_module(module)
     return module
+
+
+def try_beside(trials, most=4):
+    """Tries them beside each other, each by a program of its own, and says in order what each found; the exit status."""
+    begun, status = [], 0
+
+    def tried(name):
+        begun.append(subprocess.Popen([sys.executable, *sys.argv, "--only", name], stdout=subprocess.PIPE, stderr=subprocess.PIPE))
+        return begun[-1], begun[-1].communicate()
+
+    with ThreadPoolExecutor(most) as pool:
+        try:
+            for program, (told, wrong) in pool.map(tried, trials):
+                print(told.decode(), end="", flush=True)
+                print(wrong.decode(), end="", file=sys.stderr, flush=True)
+                status = max(status, abs(program.returncode))
+        finally:
+            pool.shutdown(wait=False, cancel_futures=True)
+            for program in begun:
+                program.terminate()
+    return status
 
 
 def try_each(trials, given):
