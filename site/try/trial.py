@@ -73,8 +73,10 @@ def try_beside(trials, most=4):
     begun, status = [], 0
 
     def tried(name):
-        begun.append(subprocess.Popen([sys.executable, *sys.argv, "--only", name], stdout=subprocess.PIPE, stderr=subprocess.PIPE))
-        return begun[-1], begun[-1].communicate()
+        words = [sys.executable, *sys.argv, "--only", name]
+        program = subprocess.Popen(words, stdout=subprocess.PIPE, stderr=subprocess.PIPE)
+        begun.append(program)
+        return program, program.communicate()
 
     with ThreadPoolExecutor(most) as pool:
         try:
