@@ -1,6 +1,6 @@
 #!/usr/bin/env python3
-"""Takes pictures of the board's page in headless Chromium: on a wall, 1600 by 900; on a phone, 400 wide, all of the page; and
-in print, as PDF, and as PNG too where pdftoppm is found.
+"""Takes pictures of the board's page in headless Chromium: on a wall, 1600 by 900; at a desk, 1000 wide, and on a phone, 390 wide,
+all of the page, each by day and by night; and in print, as PDF, and as PNG too where pdftoppm is found.
 
 The page is a file, or what a program writes, as in
     bench/board.py --out pictures -- plandesk board --db night.db
@@ -8,6 +8,7 @@ The page is a file, or what a program writes, as in
 """
 import argparse
 import os
+import re
 import shutil
 import subprocess
 import sys
@@ -32,9 +33,10 @@ def made_page(command):
 
 
 def faults_of(page):
-    """What a page of the board never has: a script, or anything from outside."""
-    words = (b"<script", b"http:", b"https:", b"src=", b"href=", b"url(", b"@import")
-    return [word.decode() for word in words if word in page.lower()]
+    """What a page of the board never has: a script, or anything from outside. Its paths lead to looks of the same desk."""
+    words = (b"<script", b"http:", b"https:", b"src=", b"url(", b"@import")
+    outside = re.findall(rb'href="(?!/(?:why|show)/)[^"]*"', page)
+    return [word.decode() for word in (*words, *outside) if word in page.lower() or word in outside]
 
 
 def run_browser(browser, profile, words):
@@ -63,8 +65,10 @@ def height_of(browser, profile, page, width, folder):
 
 
 def picture(browser, profile, page, width, height, path):
-    run_browser(browser, profile, [f"--window-size={width},{height}", f"--screenshot={path}", f"file://{page}"])
-    print(path)
+    """A picture of the page, and one where whoever looks prefers dark colours."""
+    for words, name in ([], f"{path}.png"), (["--force-dark-mode", "--blink-settings=preferredColorScheme=0"], f"{path}-dark.png"):
+        run_browser(browser, profile, [*words, f"--window-size={width},{height}", f"--screenshot={name}", f"file://{page}"])
+        print(name)
 
 
 def printed(browser, profile, page, path):
@@ -100,9 +104,9 @@ def main():
         with open(page, "wb") as file:
             file.write(text)
         profile = os.path.join(folder, "profile")
-        picture(browser, profile, page, 1600, 900, os.path.join(out, "board-wall.png"))
-        height = height_of(browser, profile, page, 400, folder)
-        picture(browser, profile, page, 400, height, os.path.join(out, "board-phone.png"))
+        picture(browser, profile, page, 1600, 900, os.path.join(out, "board-wall"))
+        for width, name in (1000, "board-desk"), (390, "board-phone"):
+            picture(browser, profile, page, width, height_of(browser, profile, page, width, folder), os.path.join(out, name))
         printed(browser, profile, page, os.path.join(out, "board-print"))
 
 

@@ -25,7 +25,8 @@ os.environ["TZ"] = "UTC"        # (one zone for all that is started)
 time.tzset()
 LOOKS = ("/health", "/occurrences", "/ready/{workstation}", "/started", "/started/{workstation}", "/report/occurrences",
          "/report/errors", "/report/late", "/report/ready/{workstation}", "/show/started", "/show/resources", "/show/workstations",
-         "/show/trackers", "/show/operations/{occurrence}", "/why/{occurrence}/010", "/forecast", "/board")
+         "/show/trackers", "/show/operations/{occurrence}", "/show/dependencies/{occurrence}", "/show/reach/{occurrence}/10",
+         "/show/intervals/{workstation}", "/why/{occurrence}/010", "/why/{occurrence}/10", "/forecast", "/board", "/")
 PATIENCE = float(os.environ.get("PATIENCE", 60))        # seconds after which what was to come is missed
 NEW_MOUNTS = 0x20000
 FAKETIME = next(Path("/usr/lib").glob("*/faketime/libfaketime.so.1"), None)     # Debian's faketime

@@ -301,7 +301,7 @@ going_not_deleted P o (inl h) k = other_status P o status.Deleted (λ e. cc) h k
 going_not_deleted P o (inr h) k = status_of P o status.Deleted k (ready_unmarked P o k.0 k.1 h.0)
 
 pub begins_if_going : (F : Forecast) → IsForecastOf F → (o : OpKey) → IsGoing F.plan.contents o → Begins F o
-begins_if_going F (requests, (mid, rest, is, leads, on)) o going =
+begins_if_going F (mid, rest, is, leads, on) o going =
     let P = F.plan.contents in
     let row = row_of P o (inl going) in
     let unchanged : IsOn leads.step.changed o = subst (λ C. IsOn C o) (sym leads.step.changes) (inl going) in

@@ -1,16 +1,17 @@
 -- What a page says of starts that aren't known.
-use Rattle.std.proofs.Common.{◌≡◌, ◌∙◌, inl, inr, refl, sym, ap, subst, ℕ, zero, suc, Bool, true, false, not, ◌&&◌, List, [], ◌∷◌, length, filter, Contains, Option, None, Some, is_some}
-use Rattle.forecast_texts.specs.plan_outlooks.specs.Forecasts.{Forecast, IsForecastOf}
+use Rattle.std.proofs.lemmas.List.Sums.{length-filter}
+use Rattle.std.specs.Prelude.{count_by}
+use Rattle.std.proofs.Common.{◌≡◌, ◌∙◌, refl, sym, ap, subst, ℕ, zero, suc, Bool, true, false, not, ◌&&◌, List, [], ◌∷◌, length, filter, Contains}
+use Rattle.forecast_texts.specs.plan_outlooks.specs.Forecasts.{Forecast, IsForecastOf, IsSinceUnknown}
 use Rattle.forecast_texts.specs.plan_outlooks.specs.Operations.{IsOperationOutlook}
 use Rattle.forecast_texts.specs.plan_outlooks.specs.Outlooks.{AreOutlooks}
 use Rattle.forecast_texts.specs.plan_outlooks.specs.declared.rows.OperationOutlook.{OperationOutlook}
 use Rattle.forecast_texts.specs.plan_outlooks.specs.declared.rows.Outlooks.{Outlooks}
-use Rattle.forecast_texts.specs.plan_outlooks.specs.plan_forecast.specs.Ahead.{IsGoing}
 use Rattle.plan_basics.proofs.Members.{contains_head, contains_none, mapped_contains}
 use Rattle.plan_basics.specs.declared.keys.OpKey.{OpKey}
 use Rattle.plan_model.specs.ready_list.proofs.Members.{contains_filter, contains_from_filter}
 use Rattle.board_pages.specs.Choices.{is_going_since_unknown}
-use Rattle.board_pages.specs.Laws.{IsGoingSinceUnknown, UnknownIsTold}
+use Rattle.board_pages.specs.Laws.{UnknownIsTold}
 use Rattle.board_pages.specs.Pages.{unknown_count, unknown_parts}
 use Rattle.board_pages.proofs.Going.{begins_if_going}
 
@@ -19,24 +20,13 @@ both true false e = (refl, refl)
 both true true e = absurd (cc)
 both false b e = absurd (cc)
 
-none_of : (x : Option ℕ) → is_some x ≡ false → x ≡ None
-none_of None e = refl
-none_of (Some n) e = absurd (cc)
-
 -- ---- the row of an operation says of it that it is going since an unknown minute exactly where it is so
 module _ (F : Forecast) (r : OperationOutlook) (row : IsOperationOutlook F r) where
-  is_told : IsGoingSinceUnknown F r.key → is_going_since_unknown r ≡ true
-  is_told (going, none) =
-      let begun : row.begun ≡ None = elim row.beginning [ inl a ↦ a.1 ∙ none | inr b ↦ absurd (b.0 going) ] in
-      let known : r.is_known ≡ false = row.begin.1 ∙ ap is_some begun in
-      ap (λ b. b && not r.is_known) (row.going.1 going) ∙ ap not known
+  is_told : IsSinceUnknown F r.key → is_going_since_unknown r ≡ true
+  is_told unknown = ap (λ b. b && not r.is_known) (row.going.1 unknown.0) ∙ row.known.1 unknown
 
-  is_so : is_going_since_unknown r ≡ true → IsGoingSinceUnknown F r.key
-  is_so tells =
-      let (goes, unknown) = both r.is_going r.is_known tells in
-      let going : IsGoing F.plan.contents r.key = row.going.0 goes in
-      let none : row.begun ≡ None = none_of row.begun (sym row.begin.1 ∙ unknown) in
-      (going, elim row.beginning [ inl a ↦ sym a.1 ∙ none | inr b ↦ absurd (b.0 going) ])
+  is_so : is_going_since_unknown r ≡ true → IsSinceUnknown F r.key
+  is_so tells = row.known.0 (ap not (both r.is_going r.is_known tells).1)
 
 -- ---- the page
 
@@ -59,19 +49,19 @@ module _ (F : Forecast) (x : Outlooks) (is : IsForecastOf F) (are : AreOutlooks 
   abbrev key_of : OperationOutlook → OpKey
   key_of r = r.key
 
-  none_where_silent : unknown_count x ≡ [] → (o : OpKey) → ¬ IsGoingSinceUnknown F o
+  none_where_silent : unknown_count x ≡ [] → (o : OpKey) → ¬ IsSinceUnknown F o
   none_where_silent quiet o = λ so.
       let (r, same, there) = mapped_contains key_of rows o ((are.operations.every o).1 (begins_if_going F is o so.0)) in
-      let tells = is_told F r (are.operations.each r there) (subst (IsGoingSinceUnknown F) (sym same) so) in
-      let none : filter is_going_since_unknown rows ≡ [] = no_length (filter is_going_since_unknown rows) (silent (length (filter is_going_since_unknown rows)) quiet) in
+      let tells = is_told F r (are.operations.each r there) (subst (IsSinceUnknown F) (sym same) so) in
+      let none : filter is_going_since_unknown rows ≡ [] = no_length (filter is_going_since_unknown rows) (length-filter is_going_since_unknown rows ∙ silent (count_by is_going_since_unknown rows) quiet) in
       contains_none r (subst (λ ys. Contains ys r) none (contains_filter is_going_since_unknown rows r tells there))
 
-  silent_where_none : ((o : OpKey) → ¬ IsGoingSinceUnknown F o) → unknown_count x ≡ []
+  silent_where_none : ((o : OpKey) → ¬ IsSinceUnknown F o) → unknown_count x ≡ []
   silent_where_none none =
       let empty : filter is_going_since_unknown rows ≡ [] = no_members (filter is_going_since_unknown rows) (λ r has.
       let (there, tells) = contains_from_filter is_going_since_unknown rows r has in
       none r.key (is_so F r (are.operations.each r there) tells)) in
-      ap (λ ys. unknown_parts (length ys)) empty
+      ap unknown_parts (sym (length-filter is_going_since_unknown rows) ∙ ap length empty)
 
 pub unknown_is_told : UnknownIsTold
 unknown_is_told F x is are = (none_where_silent F x is are, silent_where_none F x is are)

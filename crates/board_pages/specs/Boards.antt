@@ -1,5 +1,5 @@
 -- The board's page of a forecast of a plan.
-use Rattle.std.specs.Prelude.{◌≡◌, Bool, true, false, ℕ, List, length, filter, Option}
+use Rattle.std.specs.Prelude.{◌≡◌, Bool, true, false, ℕ, List, filter, length, Option}
 use Rattle.plan_basics.specs.declared.keys.OpKey.{OpKey}
 use Rattle.plan_model.specs.Contents.{Contents}
 use Rattle.plan_model.specs.Plan.{Plan}
@@ -10,6 +10,7 @@ use Rattle.forecast_texts.specs.plan_outlooks.specs.plan_reasons.specs.plan_core
 use Rattle.status_rules.specs.declared.Status.{Status}
 use Rattle.status_rules.specs.declared.Status.TheVariants.{Complete}
 use Rattle.board_pages.specs.Pages.{IsBoardPage}
+use Rattle.board_pages.specs.declared.views.View.{View}
 
 -- whether a status is complete
 abbrev pub is_complete : Status → Bool
@@ -20,7 +21,7 @@ is_complete s = false
 abbrev pub IsCompleteCount : Contents → ℕ → Type 0
 IsCompleteCount P n = (views : List OpView) × AreOpViews P views × (n ≡ length (filter (λ v. is_complete v.status) views))
 
--- the text is the board's page of what is read off a forecast of this plan
-abbrev pub IsBoard : Plan → (OpKey → Option ℕ) → ℕ → Option ℕ → List ℕ → Type 0
-IsBoard P known from until text =
-    (x : Outlooks) × IsOutlook P known from until x × ((n : ℕ) × IsCompleteCount P.contents n × IsBoardPage x n text)
+-- the text is the board's page of what is read off a forecast of this plan, looked at so
+abbrev pub IsBoard : Plan → (OpKey → Option ℕ) → ℕ → Option ℕ → View → List ℕ → Type 0
+IsBoard P known from until view text =
+    (x : Outlooks) × IsOutlook P known from until x × ((n : ℕ) × IsCompleteCount P.contents n × IsBoardPage x n view text)

@@ -1,9 +1,8 @@
 -- What is so of every page: no text that is put in breaks it, and it says where a start isn't known.
-use Rattle.std.specs.Prelude.{◌≡◌, ◌⊎◌, ◌↔◌, ℕ, List, [], filter, flat_map, None}
-use Rattle.forecast_texts.specs.plan_outlooks.specs.Forecasts.{Forecast, IsForecastOf}
+use Rattle.std.specs.Prelude.{◌≡◌, ◌⊎◌, ◌↔◌, ℕ, List, [], filter, flat_map}
+use Rattle.forecast_texts.specs.plan_outlooks.specs.Forecasts.{Forecast, IsForecastOf, IsSinceUnknown}
 use Rattle.forecast_texts.specs.plan_outlooks.specs.Outlooks.{AreOutlooks}
 use Rattle.forecast_texts.specs.plan_outlooks.specs.declared.rows.Outlooks.{Outlooks}
-use Rattle.forecast_texts.specs.plan_outlooks.specs.plan_forecast.specs.Ahead.{IsGoing}
 use Rattle.plan_basics.specs.Names.{IsName, IsResourceName}
 use Rattle.plan_basics.specs.declared.keys.OpKey.{OpKey}
 use Rattle.board_pages.specs.Pages.{unknown_count}
@@ -22,10 +21,6 @@ MarkupStands = (parts : List Part) → filter is_special (bytes parts) ≡ filte
 abbrev pub NamesStand : Type 0
 NamesStand = (n : ℕ) (t : List ℕ) → IsName n t ⊎ IsResourceName t → plain t ≡ t
 
--- it is going in the plan as it stands, and it isn't known since when
-abbrev pub IsGoingSinceUnknown : Forecast → OpKey → Type 0
-IsGoingSinceUnknown F o = IsGoing F.plan.contents o × (F.known o ≡ None)
-
--- the page of what is read off a forecast is silent on unknown starts exactly where nothing is going since an unknown minute
+-- the page of what is read off a forecast is silent on unknown starts exactly where nothing is going since nobody knows when
 abbrev pub UnknownIsTold : Type 0
-UnknownIsTold = (F : Forecast) (x : Outlooks) → IsForecastOf F → AreOutlooks F x → (unknown_count x ≡ []) ↔ ((o : OpKey) → ¬ IsGoingSinceUnknown F o)
+UnknownIsTold = (F : Forecast) (x : Outlooks) → IsForecastOf F → AreOutlooks F x → (unknown_count x ≡ []) ↔ ((o : OpKey) → ¬ IsSinceUnknown F o)

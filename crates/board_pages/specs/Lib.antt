@@ -1,8 +1,12 @@
 pub use Rattle.forecast_texts
 pub mod Pieces
-pub mod Choices
+pub mod Cells
+pub mod Tables
 pub mod Bars
+pub mod Choices
+pub mod Views
 pub mod Rows
 pub mod Pages
+pub mod Refusals
 pub mod Laws
 pub mod Boards

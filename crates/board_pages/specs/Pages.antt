@@ -1,122 +1,163 @@
 -- A whole page, part by part.
-use Rattle.std.specs.Prelude.{◌≡◌, ℕ, ℤ, pos, zero, suc, Bool, true, false, List, [], ◌∷◌, ◌++◌, length, filter, map}
+use Rattle.std.specs.Prelude.{◌≡◌, ℕ, ℤ, pos, zero, suc, Bool, true, false, cond, List, [], ◌∷◌, ◌++◌, codes, count_by, filter, flat_map, length, map, nat_le, Option, Some, None}
+use Rattle.std.specs.List.{range_with_len}
+use Rattle.forecast_texts.specs.Hands.{hands}
 use Rattle.forecast_texts.specs.plan_outlooks.specs.declared.rows.OccurrenceOutlook.{OccurrenceOutlook}
+use Rattle.forecast_texts.specs.plan_outlooks.specs.declared.rows.OperationOutlook.{OperationOutlook}
 use Rattle.forecast_texts.specs.plan_outlooks.specs.declared.rows.Outlooks.{Outlooks}
-use Rattle.board_pages.specs.Choices.{AreBySpare, has_no_end, is_going_since_unknown, is_late, is_to_be_started, is_troubled, needs_somebody, shown_of}
-use Rattle.board_pages.specs.Pieces.{Date, Hour, Markup, Number, Part, bytes, list_parts}
-use Rattle.board_pages.specs.Rows.{by_hand_parts, late_parts, occurrence_parts, standstill_parts, tick_parts}
+use Rattle.forecast_texts.specs.plan_outlooks.specs.declared.rows.Standstill.{Standstill}
+use Rattle.board_pages.specs.Choices.{AreByLatest, AreBySpare, has_no_end, is_going_since_unknown, is_late, is_troubled, runs}
+use Rattle.board_pages.specs.Pieces.{Date, Hour, Markup, Number, Part, bytes}
+use Rattle.board_pages.specs.Rows.{by_hand_parts, late_parts, named_parts, occurrence_parts, over_parts, running_parts, standstill_parts, tick_parts}
+use Rattle.board_pages.specs.Tables.{table_parts}
+use Rattle.board_pages.specs.Views.{unasked}
 use Rattle.board_pages.specs.declared.markup.TheConstants as markup
+use Rattle.board_pages.specs.declared.views.View.{View}
+use Rattle.board_pages.specs.declared.views.Watch.{Watch}
 
 -- markup alone
 abbrev pub only : List ℕ → List Part
 only m = Markup m ∷ []
 
--- the hour of the clock, as title
-abbrev pub title_parts : ℕ → List Part
-title_parts clock = Hour (pos clock) ∷ []
+-- ---- the head
 
--- the clock, as heading
-abbrev pub heading_parts : ℕ → List Part
-heading_parts clock = Date (pos clock) ∷ Markup markup.DAY_END.now ∷ Hour (pos clock) ∷ Markup markup.COUNTS.now ∷ []
+-- what has the page loaded again, unless it is to be still
+abbrev pub refresh : Bool → List ℕ
+refresh true = []
+refresh false = codes "<meta http-equiv=\"refresh\" content=\"30\">\n"
 
--- both, from the beginning of the page on
-abbrev pub clock_parts : ℕ → List Part
-clock_parts clock = only markup.BEGINNING.now ++ title_parts clock ++ only markup.STYLE.now ++ only markup.STYLE_END.now ++ heading_parts clock
+-- the clock, in the title and as heading
+abbrev pub clock_parts : ℕ → Bool → List Part
+clock_parts clock still =
+    Markup markup.BEGINNING.now ∷ Markup (refresh still) ∷ Markup (codes "<title>Board ") ∷ Hour (pos clock) ∷ Markup (codes "</title>\n<style>\n")
+    ∷ Markup markup.STYLE.now ∷ Markup markup.STYLE_END.now ∷ Markup (codes "</style>\n</head>\n<body>\n<header>\n<h1><small>")
+    ∷ Date (pos clock) ∷ Markup (codes "</small>") ∷ Hour (pos clock) ∷ Markup (codes "</h1>\n") ∷ []
+
+-- for how many minutes the plan's clock has stood: an alarm from so many on
+abbrev pub stood_by : Watch → List Part
+stood_by w =
+    cond (nat_le w.stale w.stood)
+    (Markup (codes "<p class=\"alarm\" role=\"alert\">The plan's clock has stood for ") ∷ Number w.stood ∷ Markup (codes " minutes: nobody ticks, and nothing new is named</p>\n") ∷ [])
+    (Markup (codes "<p>The plan's clock has stood for ") ∷ Number w.stood ∷ Markup (codes " minutes</p>\n") ∷ [])
+
+abbrev pub stood_parts : Option Watch → List Part
+stood_parts None = []
+stood_parts (Some w) = stood_by w
 
 -- a count of what somebody has to look at is filled where it isn't 0
 abbrev pub alarm_markup : ℕ → List ℕ
-alarm_markup zero = markup.COUNT.now
-alarm_markup (suc n) = markup.ALARM.now
+alarm_markup zero = codes "<li><b>"
+alarm_markup (suc n) = codes "<li class=\"alarm\"><b>"
+
+abbrev pub count_markup : Bool → ℕ → List ℕ
+count_markup true n = alarm_markup n
+count_markup false n = codes "<li><b>"
 
 -- a count and its words
-abbrev pub count_parts : List ℕ → ℕ → List ℕ → List Part
-count_parts before count words = Markup before ∷ Number count ∷ Markup markup.COUNTED.now ∷ Markup words ∷ Markup markup.COUNT_END.now ∷ []
-
--- such a count
-abbrev pub alarm_parts : ℕ → List ℕ → List Part
-alarm_parts count words = count_parts (alarm_markup count) count words
+abbrev pub count_parts : Bool → ℕ → List ℕ → List Part
+count_parts alarm count words = Markup (count_markup alarm count) ∷ Number count ∷ Markup (codes "</b> ") ∷ Markup words ∷ Markup (codes "</li>\n") ∷ []
 
 -- how what has no end is called: where more may come after the forecast, it only hasn't ended
 abbrev pub endless_words : Bool → List ℕ
-endless_words true = markup.NOT_ENDED_WORDS.now
-endless_words false = markup.WONT_END_WORDS.now
+endless_words true = codes "not ended"
+endless_words false = codes "won't end"
 
--- how many operations that never begin are in error or undecided
-abbrev pub troubled_count : Outlooks → List Part
-troubled_count x = alarm_parts (length (filter is_troubled (map shown_of x.standstills.items))) markup.TROUBLED_WORDS.now
-
--- how many occurrences have no end
-abbrev pub endless_count : Outlooks → List Part
-endless_count x = alarm_parts (length (filter has_no_end x.occurrences.items)) (endless_words x.is_cut)
-
--- how many end after their deadlines
-abbrev pub late_count : Outlooks → List Part
-late_count x = alarm_parts (length (filter is_late x.occurrences.items)) markup.LATE_WORDS.now
-
--- how many operations are to be started by hand
-abbrev pub by_hand_count : Outlooks → List Part
-by_hand_count x = count_parts markup.COUNT.now (length (filter is_to_be_started x.operations.items)) markup.BY_HAND_WORDS.now
-
--- how many are going
-abbrev pub going_count : Outlooks → List Part
-going_count x = count_parts markup.COUNT.now (length (filter (λ r. r.is_going) x.operations.items)) markup.GOING_WORDS.now
-
--- how many are complete
-abbrev pub complete_count : ℕ → List Part
-complete_count complete = count_parts markup.COUNT.now complete markup.COMPLETE_WORDS.now
-
--- all counts
+-- all counts, where so many operations are complete: operations that never begin and are in error or undecided, occurrences that have no end or will be late, and operations
 abbrev pub counts_parts : Outlooks → ℕ → List Part
-counts_parts x complete = troubled_count x ++ endless_count x ++ late_count x ++ by_hand_count x ++ going_count x ++ complete_count complete
+counts_parts x complete = flat_map (λ (r : Bool × ℕ × List ℕ). count_parts r.0 r.1 r.2) (
+    (true, count_by is_troubled x.standstills.items, codes "in error or undecided")
+    ∷ (true, count_by has_no_end x.occurrences.items, endless_words x.is_cut)
+    ∷ (true, count_by is_late x.occurrences.items, codes "late")
+    ∷ (true, length x.over.items, codes "longer than planned")
+    ∷ (false, length x.named.items, codes "named and not started")
+    ∷ (false, length (hands x), codes "by hand")
+    ∷ (false, count_by (λ r. r.is_going) x.operations.items, codes "going")
+    ∷ (false, complete, codes "complete")
+    ∷ [])
+
+-- ---- the tables
 
 -- the head of what never begins: where more may come after the forecast, it only hasn't started
-abbrev pub standstills_head : Bool → List ℕ
-standstills_head true = markup.NOT_STARTED.now
-standstills_head false = markup.NOTHING_COMES.now
+abbrev pub needing_head : Bool → List ℕ
+needing_head true = codes "<section><h2>Not started <small>by the end of the forecast</small></h2>\n<table><thead><tr><th scope=\"col\">Operation</th><th scope=\"col\">Workstation</th><th scope=\"col\">Status</th><th scope=\"col\">Why</th><th scope=\"col\">Start by</th></tr></thead><tbody>\n"
+needing_head false = codes "<section><h2>Nothing comes of these <small>until somebody acts</small></h2>\n<table><thead><tr><th scope=\"col\">Operation</th><th scope=\"col\">Workstation</th><th scope=\"col\">Status</th><th scope=\"col\">Why</th><th scope=\"col\">Start by</th></tr></thead><tbody>\n"
 
--- what never begins and doesn't wait: eight rows
-abbrev pub standstills_part : Outlooks → List Part
-standstills_part x =
-    only (standstills_head x.is_cut) ++ list_parts standstill_parts 8 (filter needs_somebody (map shown_of x.standstills.items)) ++ only markup.PART_END.now
+-- what never begins and doesn't wait
+abbrev pub needing_part : Outlooks → List Standstill → List Part
+needing_part x needing = table_parts (needing_head x.is_cut) standstill_parts 8 needing
 
--- what ends after its deadline: eight rows
+-- what was named and isn't started, with for how many minutes nobody has asked for its workstation
+abbrev pub named_rows : Outlooks → Option Watch → List (OperationOutlook × Option ℕ)
+named_rows x watch = map (λ (r : OperationOutlook). (r, unasked watch r.workstation)) x.named.items
+
+abbrev pub named_part : Outlooks → Option Watch → List Part
+named_part x watch = table_parts (codes "<section><h2>Named and not started</h2>\n<table><thead><tr><th scope=\"col\">Operation</th><th scope=\"col\">Workstation</th><th scope=\"col\">Named</th><th scope=\"col\">Nobody asked for</th><th scope=\"col\">Start by</th></tr></thead><tbody>\n") named_parts 8 (named_rows x watch)
+
+-- what goes on longer than planned
+abbrev pub over_part : Outlooks → List Part
+over_part x = table_parts (codes "<section><h2>Longer than planned</h2>\n<table><thead><tr><th scope=\"col\">Operation</th><th scope=\"col\">Workstation</th><th scope=\"col\">Since</th><th scope=\"col\">Over</th></tr></thead><tbody>\n") over_parts 8 x.over.items
+
+-- what will be late, in this order
 abbrev pub late_part : List OccurrenceOutlook → List Part
-late_part sorted = only markup.WILL_BE_LATE.now ++ list_parts late_parts 8 (filter is_late sorted) ++ only markup.PART_END.now
+late_part sorted = table_parts (codes "<section><h2>Will be late</h2>\n<table><thead><tr><th scope=\"col\">Occurrence</th><th scope=\"col\">Deadline</th><th scope=\"col\">Ends</th><th scope=\"col\">Late</th></tr></thead><tbody>\n") late_parts 8 (filter is_late sorted)
 
--- what is to be started by hand: eight rows
+-- what people have to do
 abbrev pub by_hand_part : Outlooks → List Part
-by_hand_part x =
-    only markup.BY_HAND.now ++ list_parts by_hand_parts 8 (filter is_to_be_started x.operations.items) ++ only markup.PART_END.now
+by_hand_part x = table_parts (codes "<section><h2>By hand</h2>\n<table><thead><tr><th scope=\"col\">Operation</th><th scope=\"col\">Workstation</th><th scope=\"col\">Do</th><th scope=\"col\">When</th><th scope=\"col\">Start by</th><th scope=\"col\">Late</th></tr></thead><tbody>\n") by_hand_parts 8 (hands x)
+
+-- what runs
+abbrev pub running_part : Outlooks → List Part
+running_part x = table_parts (codes "<section><h2>Running</h2>\n<table><thead><tr><th scope=\"col\">Operation</th><th scope=\"col\">Workstation</th><th scope=\"col\">Since</th><th scope=\"col\">Ends</th></tr></thead><tbody>\n") running_parts 16 (filter runs x.operations.items)
+
+-- what somebody has to look at
+abbrev pub trouble_parts : Outlooks → Option Watch → List Standstill → List Part
+trouble_parts x watch needing = needing_part x needing ++ named_part x watch ++ over_part x
+
+-- what is ahead
+abbrev pub ahead_parts : Outlooks → List OccurrenceOutlook → List Part
+ahead_parts x sorted = late_part sorted ++ by_hand_part x ++ running_part x
+
+-- ---- the occurrences
 
 -- the hours of the axis
 abbrev pub ticks_parts : Outlooks → List Part
-ticks_parts x =
-    tick_parts x 0 ++ tick_parts x 1 ++ tick_parts x 2 ++ tick_parts x 3 ++ tick_parts x 4 ++ tick_parts x 5 ++ tick_parts x 6 ++ tick_parts x 7
+ticks_parts x = flat_map (tick_parts x) (range_with_len 0 8)
 
 -- the occurrences, each with its bar: two hundred rows
 abbrev pub occurrences_part : Outlooks → List OccurrenceOutlook → List Part
 occurrences_part x sorted =
-    only markup.OCCURRENCES.now ++ ticks_parts x ++ only markup.AXIS_END.now ++ list_parts (occurrence_parts x) 200 sorted ++ only markup.PART_END.now
+    only (codes "<section class=\"wide\"><h2>Occurrences <small>least time to spare first; an upright mark is a deadline</small></h2>\n<table><thead><tr><th scope=\"col\">Occurrence</th><th scope=\"col\" class=\"t\">") ++ ticks_parts x
+    ++ table_parts (codes "</th><th scope=\"col\">Deadline</th><th scope=\"col\">Ends</th><th scope=\"col\">Spare</th></tr></thead><tbody>\n") (occurrence_parts x) 200 sorted
 
--- up to when the page tells
-abbrev pub told_parts : ℤ → List Part
-told_parts to = Markup markup.TOLD_TO.now ∷ Date to ∷ Markup markup.SPACE.now ∷ Hour to ∷ []
+-- ---- the foot
 
 -- how many operations, if any, are going since an unknown moment
 abbrev pub unknown_parts : ℕ → List Part
 unknown_parts zero = []
-unknown_parts (suc n) = Markup markup.UNKNOWN.now ∷ Number (suc n) ∷ Markup markup.UNKNOWN_END.now ∷ []
+unknown_parts (suc n) = Markup (codes ". Going since an unknown moment: <b>") ∷ Number (suc n) ∷ Markup (codes "</b>, each taken to begin at the clock and to last its whole duration") ∷ []
 
 abbrev pub unknown_count : Outlooks → List Part
-unknown_count x = unknown_parts (length (filter is_going_since_unknown x.operations.items))
+unknown_count x = unknown_parts (count_by is_going_since_unknown x.operations.items)
 
--- the whole page, where so many operations are complete and the occurrences stand in this order
-abbrev pub page_parts : Outlooks → ℕ → List OccurrenceOutlook → List Part
-page_parts x complete sorted =
-    clock_parts x.from ++ counts_parts x complete ++ only markup.COUNTS_END.now
-    ++ standstills_part x ++ late_part sorted ++ by_hand_part x ++ occurrences_part x sorted
-    ++ told_parts (pos x.to) ++ unknown_count x ++ only markup.ENDING.now
+-- up to when the page tells
+abbrev pub told_parts : ℤ → List Part
+told_parts to = Markup (codes "</main>\n<footer>Forecast to ") ∷ Date to ∷ Markup (codes " ") ∷ Hour to ∷ []
 
--- the text is the board's page of what a forecast tells: the occurrences stand by the time that they have to spare
-abbrev pub IsBoardPage : Outlooks → ℕ → List ℕ → Type 0
-IsBoardPage x complete text = (sorted : List OccurrenceOutlook) × AreBySpare x.occurrences.items sorted × (text ≡ bytes (page_parts x complete sorted))
+abbrev pub foot_parts : Outlooks → List Part
+foot_parts x = told_parts (pos x.to) ++ unknown_count x ++ only (codes ".</footer>\n</body>\n</html>\n")
+
+-- ---- the page
+
+abbrev pub head_parts : Outlooks → ℕ → View → List Part
+head_parts x complete view = clock_parts x.from view.is_still ++ stood_parts view.watch ++ only (codes "<ul>\n") ++ counts_parts x complete ++ only (codes "</ul>\n</header>\n<main>\n")
+
+-- the whole page, where so many operations are complete, what needs somebody and the occurrences stand in these orders
+abbrev pub page_parts : Outlooks → ℕ → View → List Standstill → List OccurrenceOutlook → List Part
+page_parts x complete view needing sorted =
+    head_parts x complete view ++ trouble_parts x view.watch needing ++ ahead_parts x sorted ++ occurrences_part x sorted ++ foot_parts x
+
+-- the text is the board's page of what a forecast tells, looked at so: what needs somebody stands by its latest start, the occurrences by the time that they have to spare
+abbrev pub IsBoardPage : Outlooks → ℕ → View → List ℕ → Type 0
+IsBoardPage x complete view text =
+    (needing : List Standstill) × (sorted : List OccurrenceOutlook) × AreByLatest x.standstills.items needing × AreBySpare x.occurrences.items sorted
+    × (text ≡ bytes (page_parts x complete view needing sorted))

@@ -1,7 +1,6 @@
 -- Pieces of a page, and their bytes.
-use Rattle.std.specs.Prelude.{ℕ, zero, suc, ℤ, ◌-◌, ◌==◌, ◌||◌, Bool, List, [], ◌∷◌, ◌++◌, length, take, drop, map, flat_map, cond, decimal}
+use Rattle.std.specs.Prelude.{ℕ, ℤ, ◌==◌, ◌||◌, Bool, List, [], ◌∷◌, take, drop, map, flat_map, cond, decimal}
 use Rattle.report_lines.specs.Moments.{latest_text}
-use Rattle.board_pages.specs.declared.markup.TheConstants as markup
 use Rattle.board_pages.specs.declared.pieces.Piece.{Piece}
 use Rattle.board_pages.specs.declared.pieces.Piece.TheVariants as piece
 
@@ -31,6 +30,14 @@ bytes_of (Text t) = plain t
 abbrev pub bytes : List Part → List ℕ
 bytes = flat_map bytes_of
 
+-- a byte of a path: a number sign, which would end it, is escaped
+abbrev pub path_byte : ℕ → List ℕ
+path_byte b = cond (b == 35) (37 ∷ 50 ∷ 51 ∷ []) (b ∷ [])
+
+-- a text in a path
+abbrev pub path_text : List ℕ → List ℕ
+path_text = flat_map path_byte
+
 -- the date of a minute; hyphens where no plan can name it
 abbrev pub date_text : ℤ → List ℕ
 date_text z = take 10 (latest_text z)
@@ -43,7 +50,10 @@ day_text z = take 5 (drop 5 (latest_text z))
 abbrev pub hour_text : ℤ → List ℕ
 hour_text z = drop 11 (latest_text z)
 
--- a number in decimal digits, and these texts, as pieces
+-- a text in a path, a number in decimal digits, and texts of a minute, as pieces
+abbrev pub Path : List ℕ → Part
+Path t = Text (path_text t)
+
 abbrev pub Number : ℕ → Part
 Number n = Text (decimal n)
 
@@ -60,25 +70,10 @@ Hour z = Text (hour_text z)
 abbrev pub part_of : Piece → Part
 part_of (piece.Markup m) = Markup m.now
 part_of (piece.Text t) = Text t.now
+part_of (piece.Path t) = Path t.now
 part_of (piece.Application name) = Text name
 part_of (piece.Workstation name) = Text name
 part_of (piece.Number n) = Number n
 part_of (piece.Date z) = Date z
 part_of (piece.Day z) = Day z
 part_of (piece.Hour z) = Hour z
-
--- ---- the rows of a part
-
--- that there are none
-abbrev pub none_parts : ℕ → List Part
-none_parts zero = Markup markup.NONE.now ∷ []
-none_parts (suc n) = []
-
--- how many more there are
-abbrev pub more_parts : ℕ → List Part
-more_parts zero = []
-more_parts (suc n) = Markup markup.MORE.now ∷ Number (suc n) ∷ Markup markup.MORE_END.now ∷ []
-
--- the first so many of the rows, and how many more there are
-abbrev pub list_parts : {R : Type 0} → (R → List Part) → ℕ → List R → List Part
-list_parts row most rows = none_parts (length rows) ++ flat_map row (take most rows) ++ more_parts (length rows - most)

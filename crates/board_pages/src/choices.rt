@@ -1,93 +1,34 @@
 // Which rows each part of a page lists, and in which order.
-ghost use Rattle.std.specs.Prelude.{◌≡◌, ◌++◌, ◌∷◌, [], IfOk, OnOk, filter, map};
-ghost use Rattle.board_pages.specs.Choices.{AreBySpare, has_no_end, is_going_since_unknown, is_late, is_to_be_started, is_troubled, needs_somebody, place, spare, shown_of};
+ghost use Rattle.std.specs.Prelude.{◌≡◌, IfOk, count_by, filter, is_some};
+ghost use Rattle.board_pages.specs.Choices.{AreByLatest, AreBySpare, has_no_end, is_going_since_unknown, is_late, is_troubled, needs_somebody, place, runs, spare};
 
-use forecast_texts::{OccurrenceOutlook, OperationOutlook, Reason, Standstill};
-use plan_basics::{Attr, OpKey};
+use forecast_texts::{Beginning, OccurrenceOutlook, OperationOutlook, Standstill};
 use status_rules::Status;
 use std::alloc::{AllocError, Global};
 
-/// What a page tells of an operation that never begins.
-#[derive(Clone, Copy)]
-pub(crate) struct ShownStandstill {
-    pub(crate) key: OpKey,
-    /// At the end of the forecast.
-    pub(crate) status: Status,
-    /// The first reason why it doesn't go on, if there is one.
-    pub(crate) reason: Option<Reason>,
-    /// In minutes from 1972-01-01T00:00; it may lie before that.
-    pub(crate) latest: i64,
-}
-
-// What a page tells of it.
-fn shown_of(row: &Standstill) -> ShownStandstill
-    ensures { result ≡ shown_of row.now }
-{
-    ShownStandstill {
-        key: row.key,
-        status: row.status,
-        reason: row.reason,
-        latest: row.latest,
-    }
-}
-
-// Puts an item at the end. It fails for want of memory only.
-fn push_last<T: Copy>(items: &mut Vec<T>, item: T) -> Result<(), AllocError>
-    ensures { OnOk result (items.new.items ≡ items.old.items ++ item ∷ []) }
-{
-    items.push(item)?;
-    Ok(())
-}
-
-/// What a page tells of these, in their order.
-pub(crate) fn all_shown(
-    alloc: Global,
-    rows: &[Standstill],
-) -> Result<Vec<ShownStandstill>, AllocError>
-    ensures { IfOk result (λ told. told.items ≡ map shown_of rows.now) }
-{
-    let mut told = Vec::new(alloc);
-    for row in rows {
-        push_last(&mut told, shown_of(row))?;
-    }
-    Ok(told)
-}
-
 // Whether it is in error or undecided.
-fn is_troubled(row: &ShownStandstill) -> bool
+fn is_troubled(row: &Standstill) -> bool
     ensures { result ≡ is_troubled row.now }
 {
     matches!(row.status, Status::Error | Status::Undecided)
 }
 
-/// Those that are in error or undecided.
-pub(crate) fn troubled(
-    alloc: Global,
-    rows: &[ShownStandstill],
-) -> Result<Vec<ShownStandstill>, AllocError>
-    ensures { IfOk result (λ chosen. chosen.items ≡ filter is_troubled rows.now) }
+/// How many are in error or undecided.
+pub(crate) fn troubled(rows: &[Standstill]) -> usize
+    ensures { result ≡ count_by is_troubled rows.now }
 {
-    let mut chosen = Vec::new(alloc);
-    for row in rows {
-        if is_troubled(row) {
-            chosen.push(*row)?;
-        }
-    }
-    Ok(chosen)
+    rows.iter().filter(|row| is_troubled(row)).count()
 }
 
 // Whether it doesn't wait for another, so that nothing comes of it until somebody acts.
-fn needs_somebody(row: &ShownStandstill) -> bool
+fn needs_somebody(row: &Standstill) -> bool
     ensures { result ≡ needs_somebody row.now }
 {
     !matches!(row.status, Status::Waiting)
 }
 
-/// Those that don't wait for another.
-pub(crate) fn needing_somebody(
-    alloc: Global,
-    rows: &[ShownStandstill],
-) -> Result<Vec<ShownStandstill>, AllocError>
+// Those that don't wait for another.
+fn needing_somebody(alloc: Global, rows: &[Standstill]) -> Result<Vec<Standstill>, AllocError>
     ensures { IfOk result (λ chosen. chosen.items ≡ filter needs_somebody rows.now) }
 {
     let mut chosen = Vec::new(alloc);
@@ -99,37 +40,37 @@ pub(crate) fn needing_somebody(
     Ok(chosen)
 }
 
-// Whether it is started by hand and isn't going.
-fn is_to_be_started(row: &OperationOutlook) -> bool
-    ensures { result ≡ is_to_be_started row.now }
+/// Those that don't wait for another, what has to start first comes first.
+pub(crate) fn by_latest(alloc: Global, rows: &[Standstill]) -> Result<Vec<Standstill>, AllocError>
+    ensures { IfOk result (λ sorted. AreByLatest rows.now sorted.items) }
 {
-    matches!(row.attribute, Attr::StartAndCompletion) && !row.is_going
+    let mut sorted = needing_somebody(alloc, rows)?;
+    sorted.sort_by_key(|row| row.latest)?;
+    Ok(sorted)
 }
 
-/// Those that are to be started by hand.
-pub(crate) fn to_be_started(
+/// How many are going.
+pub(crate) fn going(rows: &[OperationOutlook]) -> usize
+    ensures { result ≡ count_by (λ r. r.is_going) rows.now }
+{
+    rows.iter().filter(|row| row.is_going).count()
+}
+
+// Whether it runs.
+fn runs(row: &OperationOutlook) -> bool
+    ensures { result ≡ runs row.now }
+{
+    matches!(row.beginning, Beginning::Reported)
+}
+
+/// Those that run.
+pub(crate) fn running(
     alloc: Global,
     rows: &[OperationOutlook],
 ) -> Result<Vec<OperationOutlook>, AllocError>
-    ensures { IfOk result (λ chosen. chosen.items ≡ filter is_to_be_started rows.now) }
+    ensures { IfOk result (λ chosen. chosen.items ≡ filter runs rows.now) }
 {
-    rows.iter()
-        .copied()
-        .filter(|row| is_to_be_started(row))
-        .collect(alloc)
-}
-
-/// Those that are going.
-pub(crate) fn going(
-    alloc: Global,
-    rows: &[OperationOutlook],
-) -> Result<Vec<OperationOutlook>, AllocError>
-    ensures { IfOk result (λ chosen. chosen.items ≡ filter (λ r. r.is_going) rows.now) }
-{
-    rows.iter()
-        .copied()
-        .filter(|row| row.is_going)
-        .collect(alloc)
+    rows.iter().copied().filter(|row| runs(row)).collect(alloc)
 }
 
 // Whether it is going and it isn't known since when.
@@ -139,17 +80,13 @@ fn is_going_since_unknown(row: &OperationOutlook) -> bool
     row.is_going && !row.is_known
 }
 
-/// Those that are going and of which it isn't known since when.
-pub(crate) fn going_since_unknown(
-    alloc: Global,
-    rows: &[OperationOutlook],
-) -> Result<Vec<OperationOutlook>, AllocError>
-    ensures { IfOk result (λ chosen. chosen.items ≡ filter is_going_since_unknown rows.now) }
+/// How many are going of which it isn't known since when.
+pub(crate) fn going_since_unknown(rows: &[OperationOutlook]) -> usize
+    ensures { result ≡ count_by is_going_since_unknown rows.now }
 {
     rows.iter()
-        .copied()
         .filter(|row| is_going_since_unknown(row))
-        .collect(alloc)
+        .count()
 }
 
 // Whether the forecast doesn't end it.
@@ -159,27 +96,28 @@ fn has_no_end(row: &OccurrenceOutlook) -> bool
     row.end.is_none()
 }
 
-/// Those that the forecast doesn't end.
-pub(crate) fn without_end(
-    alloc: Global,
-    rows: &[OccurrenceOutlook],
-) -> Result<Vec<OccurrenceOutlook>, AllocError>
-    ensures { IfOk result (λ chosen. chosen.items ≡ filter has_no_end rows.now) }
+/// How many the forecast doesn't end.
+pub(crate) fn without_end(rows: &[OccurrenceOutlook]) -> usize
+    ensures { result ≡ count_by has_no_end rows.now }
 {
-    rows.iter()
-        .copied()
-        .filter(|row| has_no_end(row))
-        .collect(alloc)
+    rows.iter().filter(|row| has_no_end(row)).count()
 }
 
-// Whether it ends after its deadline.
+// Whether it will be late.
 fn is_late(row: &OccurrenceOutlook) -> bool
     ensures { result ≡ is_late row.now }
 {
     row.late.is_some()
 }
 
-/// Those that end after their deadlines.
+/// How many will be late.
+pub(crate) fn late_count(rows: &[OccurrenceOutlook]) -> usize
+    ensures { result ≡ count_by is_late rows.now }
+{
+    rows.iter().filter(|row| is_late(row)).count()
+}
+
+/// Those that will be late.
 pub(crate) fn late(
     alloc: Global,
     rows: &[OccurrenceOutlook],

@@ -1,10 +1,7 @@
 // Pieces of a page, and how they are put behind it.
-ghost use Rattle.std.specs.Prelude.{◌≡◌, ◌++◌, List, OnOk, decimal, flat_map, map, take};
-ghost use Rattle.board_pages.specs.Pieces.{Part, bytes, bytes_of, date_text, day_text, hour_text, list_parts, more_parts, none_parts, part_of, plain, plain_byte};
-ghost use Rattle.forecast_texts.specs.plan_outlooks.specs.declared.rows.Outlooks.{Outlooks as Told};
+ghost use Rattle.std.specs.Prelude.{◌≡◌, ◌++◌, OnOk, decimal, map};
+ghost use Rattle.board_pages.specs.Pieces.{bytes, bytes_of, date_text, day_text, hour_text, part_of, path_byte, path_text, plain, plain_byte};
 
-use super::markup;
-use forecast_texts::Outlooks;
 use plan_basics::{AppId, WsName};
 use report_lines::latest_text;
 use std::alloc::AllocError;
@@ -16,6 +13,8 @@ pub(crate) enum Piece<'a> {
     Markup(&'a str),
     /// A text: a question mark stands for a byte that HTML takes for markup.
     Text(&'a [u8]),
+    /// A text in a path: a number sign is escaped.
+    Path(&'a [u8]),
     Application(AppId),
     Workstation(WsName),
     /// In decimal digits.
@@ -44,6 +43,27 @@ fn put_text(page: &mut Vec<u8>, text: &[u8]) -> Result<(), AllocError>
 {
     for byte in text {
         page.push(plain_byte(*byte))?;
+    }
+    Ok(())
+}
+
+// Puts a byte of a path behind a page.
+fn put_path_byte(page: &mut Vec<u8>, byte: u8) -> Result<(), AllocError>
+    ensures { OnOk result (page.new.items ≡ page.old.items ++ plain (path_byte byte)) }
+{
+    if byte == b'#' {
+        put_text(page, b"%23")
+    } else {
+        put_text(page, &[byte])
+    }
+}
+
+// Puts a text in a path behind a page.
+fn put_path(page: &mut Vec<u8>, text: &[u8]) -> Result<(), AllocError>
+    ensures { OnOk result (page.new.items ≡ page.old.items ++ plain (path_text text.now)) }
+{
+    for byte in text {
+        put_path_byte(page, *byte)?;
     }
     Ok(())
 }
@@ -84,6 +104,7 @@ fn put_piece(page: &mut Vec<u8>, piece: &Piece<'_>) -> Result<(), AllocError>
     match piece {
         Piece::Markup(markup) => page.extend_from_slice(markup.as_bytes()),
         Piece::Text(text) => put_text(page, text),
+        Piece::Path(text) => put_path(page, text),
         Piece::Application(name) => put_text(page, name.as_bytes()),
         Piece::Workstation(name) => put_text(page, name.as_bytes()),
         Piece::Number(number) => put_number(page, *number),
@@ -101,82 +122,4 @@ pub(crate) fn put(page: &mut Vec<u8>, pieces: &[Piece<'_>]) -> Result<(), AllocE
         put_piece(page, piece)?;
     }
     Ok(())
-}
-
-/// How a row of a part is laid out.
-pub(crate) trait Layout<R> {
-    // The pieces of a row.
-    ghost parts: { Told → R → List Part };
-
-    /// Puts a row of what a forecast tells behind a page. It fails for want of memory only.
-    fn put(page: &mut Vec<u8>, told: &Outlooks, row: &R) -> Result<(), AllocError>
-        ensures { OnOk result (page.new.items ≡ page.old.items ++ bytes (parts told.now row.now)) };
-}
-
-// Puts rows behind a page.
-#[tactic(auto, using(crate::proofs::Bytes::bytes_append))]
-fn put_rows<L: Layout<R>, R>(
-    page: &mut Vec<u8>,
-    told: &Outlooks,
-    rows: &[R],
-) -> Result<(), AllocError>
-    ensures { OnOk result (page.new.items ≡ page.old.items ++ bytes (flat_map (L.parts told.now) rows.now)) }
-{
-    for row in rows {
-        L::put(page, told, row)?;
-    }
-    Ok(())
-}
-
-// The first of these rows, so many at most.
-fn first<R>(rows: &[R], most: usize) -> &[R]
-    ensures { result.now ≡ take most rows.now }
-{
-    if rows.len() <= most {
-        rows
-    } else {
-        &rows[..most]
-    }
-}
-
-// Puts that a part has no rows behind a page, if it has none.
-fn put_none(page: &mut Vec<u8>, count: usize) -> Result<(), AllocError>
-    ensures { OnOk result (page.new.items ≡ page.old.items ++ bytes (none_parts count)) }
-{
-    if count == 0 {
-        page.extend_from_slice(markup::NONE.as_bytes())?;
-    }
-    Ok(())
-}
-
-// Puts behind a page how many more rows there are, if there are more.
-fn put_more(page: &mut Vec<u8>, count: usize) -> Result<(), AllocError>
-    ensures { OnOk result (page.new.items ≡ page.old.items ++ bytes (more_parts count)) }
-{
-    if count == 0 {
-        return Ok(());
-    }
-    put(
-        page,
-        &[
-            Piece::Markup(markup::MORE),
-            Piece::Number(count as u64),
-            Piece::Markup(markup::MORE_END),
-        ],
-    )
-}
-
-/// Puts the first of these rows behind a page, so many at most, and how many more there are. It fails for want of memory
-/// only.
-pub(crate) fn put_list<L: Layout<R>, R>(
-    page: &mut Vec<u8>,
-    told: &Outlooks,
-    rows: &[R],
-    most: usize,
-) -> Result<(), AllocError>
-    ensures { OnOk result (page.new.items ≡ page.old.items ++ bytes (list_parts (L.parts told.now) most rows.now)) }
-{
-    put_none(page, rows.len())?;
-    put_rows::<L, R>(page, told, first(rows, most))?;
-    put_more(page, rows.len().saturating_sub(most))
 }

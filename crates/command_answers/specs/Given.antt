@@ -1,10 +1,7 @@
 -- What the words give, and the texts that they name.
 use Rattle.std.specs.Prelude.{◌≡◌, ℕ, ℤ, List, Option, Some, None, MatchOption, codes}
-use Rattle.plan_basics.specs.KeyTexts.{IsOperationText}
-use Rattle.plan_basics.specs.Keys.{IsOperationKey}
 use Rattle.plan_basics.specs.Minutes.{IsMinuteText}
 use Rattle.plan_basics.specs.Names.{IsName}
-use Rattle.plan_basics.specs.declared.keys.OpKey.{OpKey}
 use Rattle.plan_import.specs.Texts.{TextDenotes, TextDenotesExtension}
 use Rattle.plan_records.specs.plan_model.specs.Contents.{AddedParts, Contents}
 use Rattle.plan_records.specs.declared.Request.{Request}
@@ -25,10 +22,6 @@ IsNoMinute text = (z : ℤ) → ¬ IsMinuteText text z
 -- what the words give is no moment, and not nothing either
 abbrev pub IsNoMinuteGiven : Option (List ℕ) → Type 0
 IsNoMinuteGiven given = (z : Option ℤ) → ¬ IsMinuteGiven given z
-
--- the text is no key of an operation
-abbrev pub IsNoOperationText : List ℕ → Type 0
-IsNoOperationText text = (o : OpKey) → IsOperationKey o → ¬ IsOperationText text o
 
 -- the text is no request of an operator
 abbrev pub IsNoRequest : List ℕ → Type 0

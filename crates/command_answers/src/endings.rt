@@ -8,7 +8,7 @@ use std::alloc::AllocError;
 use std::{fmt, io};
 
 /// How a run ends that has shown its answer.
-#[derive(Clone, Copy, Debug, PartialEq, Eq)]
+#[derive(Clone, Copy)]
 pub enum Ending {
     /// Accepted, or the help that was asked for.
     Done,
@@ -34,7 +34,7 @@ impl Ending {
 }
 
 /// Why a run ends without its answer being shown in full.
-#[derive(Clone, Copy, Debug, PartialEq, Eq)]
+#[derive(Clone, Copy)]
 pub enum Fault {
     /// A word isn't UTF-8.
     Encoding,

@@ -1,9 +1,8 @@
 // What the words give: a moment, a request, the kind of a report. Each is judged before any file is touched.
 ghost use Rattle.std.specs.Prelude.{◌≡◌, ◌⊎◌, IfOk, IfErr, codes};
 ghost use Rattle.clap.specs.Matches.{first_value, found_of};
-ghost use Rattle.plan_basics.specs.KeyTexts.{IsOperationText};
 ghost use Rattle.plan_basics.specs.Minutes.{IsMinuteText};
-ghost use Rattle.command_answers.specs.Given.{AsksNoReport, AsksReport, IsNoRequest, IsMinuteGiven, IsNoMinute, IsNoMinuteGiven, IsNoOperationText};
+ghost use Rattle.command_answers.specs.Given.{AsksNoReport, AsksReport, IsNoRequest, IsMinuteGiven, IsNoMinute, IsNoMinuteGiven};
 ghost use Rattle.command_words.specs.Words.{text_given};
 ghost use Rattle.command_answers.specs.declared.endings.Fault.{Fault};
 ghost use Rattle.request_json.specs.Requests.{ReadsAsRequest};
@@ -11,7 +10,7 @@ ghost use Rattle.request_json.specs.Requests.{ReadsAsRequest};
 use crate::endings::Fault;
 use clap::ArgMatches;
 use command_words::value_of;
-use plan_basics::{OpKey, WsName, minute_of_text};
+use plan_basics::{WsName, minute_of_text};
 use plan_records::Request;
 use request_json::read_operator;
 use std::alloc::Global;
@@ -51,17 +50,6 @@ pub fn moment_if_given(given: &ArgMatches, name: &str) -> Result<Option<i64>, Fa
     match minute_of_text(text.as_bytes()) {
         Some(at) => Ok(Some(at)),
         None => Err(Fault::Moment),
-    }
-}
-
-/// The operation that the words name. `Words` where the text is no key of an operation.
-pub fn operation_of(given: &ArgMatches) -> Result<OpKey, Fault>
-    ensures key { IfOk result (IsOperationText (text_given (found_of given.now) (codes "op"))) }
-    ensures fault { IfErr result (λ fault. (fault ≡ Fault.Words) × IsNoOperationText (text_given (found_of given.now) (codes "op"))) }
-{
-    match OpKey::from_text(value_of(given, "op").as_bytes()) {
-        Some(key) => Ok(key),
-        None => Err(Fault::Words),
     }
 }
 

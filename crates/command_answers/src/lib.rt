@@ -11,7 +11,7 @@ mod lines;
 pub use answers::{tell, tell_no_desk, tell_refusal};
 pub use endings::{Ending, Fault, NoDesk};
 pub use files::{extension_of, extension_of_file, plan_of_file, text_of, text_of_file};
-pub use given::{Kind, kind_of, moment_if_given, moment_of, operation_of, request_of};
+pub use given::{Kind, kind_of, moment_if_given, moment_of, request_of};
 pub use lines::{first_line, tell_number};
 pub use plan_import::read_plan;
 pub use request_json::WireFault;

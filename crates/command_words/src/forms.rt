@@ -1,5 +1,23 @@
 // The commands and their options, as a table.
 
+use clap::ArgAction;
+use clap::builder::ValueParser;
+
+/// The kinds of a report.
+const KINDS: [&str; 4] = ["ready", "occurrences", "errors", "late"];
+
+/// The kinds of a show.
+const SHOWS: [&str; 8] = [
+    "started",
+    "operations",
+    "resources",
+    "workstations",
+    "trackers",
+    "dependencies",
+    "reach",
+    "intervals",
+];
+
 /// What an option's value may be.
 #[derive(Clone, Copy)]
 pub enum ValueForm {
@@ -17,6 +35,31 @@ pub enum ValueForm {
     AllMinutes,
 }
 
+impl ValueForm {
+    /// What giving the option does.
+    pub fn action(self) -> ArgAction {
+        match self {
+            ValueForm::Texts => ArgAction::Append,
+            ValueForm::Absent => ArgAction::SetTrue,
+            _ => ArgAction::Set,
+        }
+    }
+
+    /// What takes the value.
+    pub fn parser(self) -> ValueParser<'static> {
+        match self {
+            ValueForm::Text | ValueForm::Texts => ValueParser::String,
+            ValueForm::Absent => ValueParser::Bool,
+            ValueForm::Kind => ValueParser::Names(&KINDS),
+            ValueForm::Show => ValueParser::Names(&SHOWS),
+            ValueForm::Port => ValueParser::Signed(1, 65_535),
+            ValueForm::Connections => ValueParser::Signed(1, 1_000_000),
+            ValueForm::Minutes => ValueParser::Signed(1, 5_256_000),
+            ValueForm::AllMinutes => ValueParser::Signed(1, 52_596_000),
+        }
+    }
+}
+
 /// When an option has to be given.
 #[derive(Clone, Copy)]
 pub enum Need {
@@ -28,10 +71,64 @@ pub enum Need {
     Unless(&'static [&'static str]),
     /// It may be given where none of these others is.
     NotWith(&'static [&'static str]),
-    /// It may be given, and this other one then has to be.
-    Together(&'static str),
-    /// So, and none of these may then be.
-    Beside(&'static str, &'static [&'static str]),
+    /// It may be given, and these others then have to be.
+    Together(&'static [&'static str]),
+    /// So, and none of the last may then be.
+    Beside(&'static [&'static str], &'static [&'static str]),
+}
+
+/// The same in terms of the other options.
+#[derive(Clone, Copy)]
+pub struct Rules {
+    /// It has to be given.
+    pub required: bool,
+    /// It has to be given where none of these is.
+    pub unless: &'static [&'static str],
+    /// Where it is given, these have to be ..
+    pub with: &'static [&'static str],
+    /// .. and none of these may be.
+    pub apart: &'static [&'static str],
+}
+
+const FREE: Rules = Rules {
+    required: false,
+    unless: &[],
+    with: &[],
+    apart: &[],
+};
+
+impl Need {
+    pub fn rules(self) -> Rules {
+        match self {
+            Need::Always => Rules {
+                required: true,
+                ..FREE
+            },
+            Need::Never => FREE,
+            Need::InPlaceOf(others) => Rules {
+                unless: others,
+                apart: others,
+                ..FREE
+            },
+            Need::Unless(others) => Rules {
+                unless: others,
+                ..FREE
+            },
+            Need::NotWith(others) => Rules {
+                apart: others,
+                ..FREE
+            },
+            Need::Together(others) => Rules {
+                with: others,
+                ..FREE
+            },
+            Need::Beside(others, apart) => Rules {
+                with: others,
+                apart,
+                ..FREE
+            },
+        }
+    }
 }
 
 /// A long option, and its value.
@@ -92,7 +189,7 @@ const SHOWN_PLAN: OptionForm = OptionForm {
     value_name: "FILE",
     help: "In place of --db: a plan, loaded into a desk in memory at the moment of --at",
     value: ValueForm::Text,
-    need: Need::Together("at"),
+    need: Need::Together(&["at"]),
 };
 
 const SHOWN_MOMENT: OptionForm = OptionForm {
@@ -153,14 +250,14 @@ pub const COMMANDS: [CommandForm; 13] = [
                 value_name: "FILE",
                 help: "With --extension: the database of the desk whose plan it is to extend",
                 value: ValueForm::Text,
-                need: Need::Beside("extension", &["plan", "at"]),
+                need: Need::Beside(&["extension"], &["plan", "at"]),
             },
             OptionForm {
                 name: "at",
                 value_name: "MOMENT",
                 help: "With --extension and --plan: the moment, as 2024-03-01T22:00",
                 value: ValueForm::Text,
-                need: Need::Beside("extension", &["request"]),
+                need: Need::Beside(&["extension"], &["request"]),
             },
         ],
     },
@@ -231,7 +328,7 @@ pub const COMMANDS: [CommandForm; 13] = [
     },
     CommandForm {
         name: "show",
-        about: "Shows what the desk of a database has: what is started, operations, resources, workstations or trackers",
+        about: "Shows what the desk of a database has: what is started, an occurrence's operations or dependencies, what a rerun reaches, resources, workstations, intervals or trackers",
         example: "Example: plandesk show --db night.db --kind operations --occ PAYROLL/2024-03-01T22:00",
         options: &[
             DATABASE,
@@ -245,7 +342,21 @@ pub const COMMANDS: [CommandForm; 13] = [
             OptionForm {
                 name: "occ",
                 value_name: "KEY",
-                help: "The occurrence, as PAYROLL/2024-03-01T22:00: needed for `operations`, not looked at otherwise",
+                help: "The occurrence, as PAYROLL/2024-03-01T22:00: needed for `operations` and `dependencies`, not looked at otherwise",
+                value: ValueForm::Text,
+                need: Need::Never,
+            },
+            OptionForm {
+                name: "op",
+                value_name: "KEY",
+                help: "The operation, as PAYROLL/2024-03-01T22:00/10: needed for `reach`, not looked at otherwise",
+                value: ValueForm::Text,
+                need: Need::Never,
+            },
+            OptionForm {
+                name: "ws",
+                value_name: "NAME",
+                help: "The workstation: needed for `intervals`, not looked at otherwise",
                 value: ValueForm::Text,
                 need: Need::Never,
             },
@@ -254,14 +365,14 @@ pub const COMMANDS: [CommandForm; 13] = [
     CommandForm {
         name: "why",
         about: "Tells why an operation doesn't go on at a moment, and what it waits for in the end",
-        example: "Example: plandesk why --db night.db --op PAYROLL/2024-03-01T22:00/010",
+        example: "Example: plandesk why --db night.db --op PAYROLL/2024-03-01T22:00/10",
         options: &[
             SHOWN_DATABASE,
             SHOWN_PLAN,
             OptionForm {
                 name: "op",
                 value_name: "KEY",
-                help: "The operation, as PAYROLL/2024-03-01T22:00/010",
+                help: "The operation, as PAYROLL/2024-03-01T22:00/10; its number may have zeros before it",
                 value: ValueForm::Text,
                 need: Need::Always,
             },
@@ -299,7 +410,7 @@ pub const COMMANDS: [CommandForm; 13] = [
     CommandForm {
         name: "desk",
         about: "Serves trackers and operators over HTTP for good, and whoever looks at the desk",
-        example: "Example: plandesk desk --db night.db --port 8080 --journal night.log",
+        example: "Example: plandesk desk --db night.db --port 8080 --journal night.log\nTo look at: / /board /forecast /health /report/occurrences /report/errors /report/late /report/ready/WS /show/started /show/operations/OCC /show/resources /show/workstations /show/trackers /started /started/WS /why/KEY",
         options: &[
             DATABASE,
             PORT,
@@ -322,6 +433,13 @@ pub const COMMANDS: [CommandForm; 13] = [
                 value_name: "MINUTES",
                 help: "How far after the plan's clock the moment of --at may be: 1 to 52596000 minutes, 43200 where it isn't given",
                 value: ValueForm::AllMinutes,
+                need: Need::Never,
+            },
+            OptionForm {
+                name: "stale",
+                value_name: "MINUTES",
+                help: "From how many minutes on the board alarms that the plan's clock stands: 1 to 5256000, 3 where it isn't given",
+                value: ValueForm::Minutes,
                 need: Need::Never,
             },
             OptionForm {

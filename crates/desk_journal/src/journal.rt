@@ -9,7 +9,7 @@ use std::alloc::AllocError;
 use std::io::Write;
 
 /// Why a request with a journal has no answer.
-#[derive(Clone, Copy, Debug, PartialEq, Eq)]
+#[derive(Clone, Copy)]
 pub enum JournalFault {
     /// Memory lacked.
     Memory,

@@ -1,5 +1,5 @@
 -- Connections one after another.
-use Rattle.std.proofs.Common.{◌≡◌, refl, inl, arith, List, ℕ}
+use Rattle.std.proofs.Common.{refl, inl, arith}
 use Rattle.std.specs.Prelude.{⊤}
 use Rattle.sqlite.specs.Held.{state}
 use Rattle.sqlite.specs.Store.{Ghosts}

@@ -1,5 +1,5 @@
 -- How a run of `desk` ends that shows something.
-use Rattle.std.proofs.Common.{◌≡◌, refl, List, ℕ, Option, Result, Ok, Err, IfOk}
+use Rattle.std.proofs.Common.{◌≡◌, List, ℕ, Option, Result, Ok, Err, IfOk}
 use Rattle.plan_basics.specs.declared.Refusal.{Refusal}
 use Rattle.command_desks.specs.desk_tables.specs.plan_records.specs.Answer.{refused}
 use Rattle.command_answers.specs.Answers.{IsShown}

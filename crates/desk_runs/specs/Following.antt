@@ -17,11 +17,17 @@ pub record AreFirstTermsOf (P : Plan) (minutes : ℕ) (is_bound : Bool) (terms :
   pub going : AreTermsOf P terms
   pub unknown : (o : OpKey) → since_in terms.known o ≡ None
 
--- so later, with the same guards
-pub record AreStillTermsOf (P : Plan) (old new : Terms) : Type 0 where
+-- starts as they were noted from this plan and these on, through any number of accepted requests: none is forgotten or set anew between two of them
+pub data HaveFollowed (P : Plan) (s : OpKey → Option ℕ) : Plan → (OpKey → Option ℕ) → Type 0 where
+  not_yet : HaveFollowed P s P s
+  once_more : {Q R : Plan} {t u : OpKey → Option ℕ} → HaveFollowed P s Q t → AreStartsAfter Q R t u → HaveFollowed P s R u
+
+-- so later, with the same guards: the starts were noted from one plan to the other
+pub record AreStillTermsOf (before after : Plan) (old new : Terms) : Type 0 where
   pub ahead : new.ahead ≡ old.ahead
   pub bound : new.bound ≡ old.bound
-  pub going : AreTermsOf P new
+  pub going : AreTermsOf after new
+  pub starts : HaveFollowed before (since_in old.known) after (since_in new.known)
 
 -- they have followed a desk from one plan to the next: what became going by it is known since its clock, what goes on as before, and of all else nothing; the guards are the same
 pub record AreFollowed (before after : Plan) (old new : Terms) : Type 0 where

@@ -1,4 +1,5 @@
 pub mod Connections
 pub mod Following
+pub mod Seen
 pub mod Ticks
 pub mod Waits

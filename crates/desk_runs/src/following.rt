@@ -6,7 +6,7 @@ ghost use Rattle.command_desks.specs.desk_tables.specs.plan_model.specs.Plan.{Pl
 ghost use Rattle.desk_runs.specs.Following.{AreFirstTermsOf, AreFollowed, AreTermsOf};
 
 use command_answers::Fault;
-use desk_serving::{KnownStarts, Plan, Terms};
+use desk_serving::{KnownStarts, Plan, Terms, View};
 
 /// The terms of a desk that is opened with this plan, where a request's moment may be so many minutes after its clock, and
 /// trackers are bound to their names or not: of what is going it isn't known since when. The fault is that of memory.
@@ -19,6 +19,10 @@ pub fn first_terms(plan: &Plan, minutes: u32, bound: bool) -> Result<Terms, Faul
         ahead: Some(minutes),
         bound,
         known,
+        view: View {
+            is_still: false,
+            watch: None,
+        },
     })
 }
 

@@ -6,6 +6,7 @@ mod following;
 mod journals;
 mod polling;
 mod running;
+mod seen;
 mod serving;
 mod ticks;
 mod timed;

@@ -9,7 +9,8 @@ ghost use Rattle.desk_runs.specs.Connections.{GoesOn};
 ghost use Rattle.desk_runs.specs.Following.{AreFollowed, AreStillTermsOf, AreTermsOf};
 
 use super::following::follow;
-use super::timed::{ReplyStream, TimedStream};
+use super::seen::{Seen, looked, note_asked};
+use super::timed::{HeardStream, ReplyStream, TimedStream};
 use super::waiting::{LISTENER, MOST_WAITING, Waiting};
 use command_answers::Fault;
 use command_desks::Desk;
@@ -28,13 +29,14 @@ use std::time::{Duration, Instant};
 
 /// Serves the one exchange of a connection, whose bytes no clause knows: a reply is written, the desk and the journal are as
 /// it says (`ends`), and whatever acted stands in the journal (`stands`). A client that keeps it longer than its time is a
-/// fault of the reader or the writer.
+/// fault of the reader or the writer. The first bytes of the request are put behind what was heard.
 fn serve_stream<J: Write, S: Alter + Drop>(
     rt: &HostRuntime,
     stream: &TcpStream,
     journal: &mut Journal<J>,
     desk: &mut Desk<S>,
     terms: &Terms,
+    heard: &mut Vec<u8>,
 ) -> Result<(), ServeFault>
     ensures ends { Ends S.Store terms.now result None desk.old desk.new (None, None) (entries_of J.contents journal.old, entries_of J.contents journal.new) }
     ensures stands { Stands None desk.old desk.new (entries_of J.contents journal.old) (entries_of J.contents journal.new) }
@@ -45,7 +47,7 @@ fn serve_stream<J: Write, S: Alter + Drop>(
     };
     serve_wanted(
         rt.alloc(),
-        &mut Watched::new(TimedStream::new(rt, stream, begun)),
+        &mut Watched::new(HeardStream::new(TimedStream::new(rt, stream, begun), heard)),
         &mut Watched::new(ReplyStream::new(rt, stream)),
         journal,
         desk,
@@ -55,13 +57,14 @@ fn serve_stream<J: Write, S: Alter + Drop>(
 
 /// Serves a connection, and follows the plan through its exchange. One that faults concerns its client alone, who learns of it
 /// by the reply that doesn't come. `File` where the journal took no line, or the desk has to be opened again, `Memory` where
-/// the starts couldn't be noted: then no other is served (`goes_on`).
+/// the starts, or for what somebody asked, couldn't be noted: then no other is served (`goes_on`).
 fn serve_readable<J: Write, S: Alter + Drop>(
     rt: &HostRuntime,
     stream: &TcpStream,
     journal: &mut Journal<J>,
     desk: &mut Desk<S>,
     terms: &mut Terms,
+    seen: &mut Seen,
 ) -> Result<(), Fault>
     requires known { AreTermsOf desk.old.plan terms.old }
     ensures followed { OnOk result (AreFollowed desk.old.plan desk.new.plan terms.old terms.new) }
@@ -70,12 +73,21 @@ fn serve_readable<J: Write, S: Alter + Drop>(
     ensures stands { Stands None desk.old desk.new (entries_of J.contents journal.old) (entries_of J.contents journal.new) }
     ensures continues { Continues S.Store desk.old desk.new }
 {
-    let served = serve_stream(rt, stream, journal, desk, terms);
+    let mut heard = Vec::new(rt.alloc());
+    let served = serve_stream(rt, stream, journal, desk, terms, &mut heard);
     if matches!(served, Err(ServeFault::Journal)) || !desk.is_usable() {
         return Err(Fault::File);
     }
     follow(terms, desk.plan())?;
+    note_asked(rt, seen, desk.plan(), &heard)?;
     Ok(())
+}
+
+/// Who waits, and what the desk has seen of those who were served.
+#[derive(Drop)]
+struct Callers {
+    waiting: Waiting,
+    seen: Seen,
 }
 
 /// Serves the connection of an event, if it waits; and tells whether the event is the listener's.
@@ -83,7 +95,7 @@ fn serve_readable<J: Write, S: Alter + Drop>(
 fn serve_event<J: Write, S: Alter + Drop>(
     rt: &HostRuntime,
     event: &Event,
-    waiting: &mut Waiting,
+    callers: &mut Callers,
     journal: &mut Journal<J>,
     desk: &mut Desk<S>,
     terms: &mut Terms,
@@ -98,10 +110,10 @@ fn serve_event<J: Write, S: Alter + Drop>(
     if token == LISTENER {
         return Ok(true);
     }
-    let Some(stream) = waiting.take(token) else {
+    let Some(stream) = callers.waiting.take(token) else {
         return Ok(false);
     };
-    serve_readable(rt, &stream, journal, desk, terms)?;
+    serve_readable(rt, &stream, journal, desk, terms, &mut callers.seen)?;
     Ok(false)
 }
 
@@ -109,7 +121,7 @@ fn serve_event<J: Write, S: Alter + Drop>(
 fn serve_events<J: Write, S: Alter + Drop>(
     rt: &HostRuntime,
     events: &Events,
-    waiting: &mut Waiting,
+    callers: &mut Callers,
     journal: &mut Journal<J>,
     desk: &mut Desk<S>,
     terms: &mut Terms,
@@ -117,12 +129,12 @@ fn serve_events<J: Write, S: Alter + Drop>(
     requires known { AreTermsOf desk.old.plan terms.old }
     ensures usable { OnOk result (desk.old.is_usable ≡ true → desk.new.is_usable ≡ true) }
     ensures fault { IfErr result (λ fault. (fault ≡ Fault.File) ⊎ ((fault ≡ Fault.Memory) × (desk.old.is_usable ≡ true → desk.new.is_usable ≡ true))) }
-    ensures known { OnOk result (AreStillTermsOf desk.new.plan terms.old terms.new) }
+    ensures known { OnOk result (AreStillTermsOf desk.old.plan desk.new.plan terms.old terms.new) }
     ensures continues { Continues S.Store desk.old desk.new }
 {
     let mut knocking = false;
     for event in events.iter() {
-        let told = serve_event(rt, event, waiting, journal, desk, terms)?;
+        let told = serve_event(rt, event, callers, journal, desk, terms)?;
         knocking |= told;
     }
     Ok(knocking)
@@ -133,12 +145,12 @@ fn serve_events<J: Write, S: Alter + Drop>(
 struct Door {
     poll: Poll,
     events: Events,
-    waiting: Waiting,
+    callers: Callers,
     knocking: bool,
 }
 
-/// The door of a listener, which doesn't block from here on.
-fn door_of(rt: &HostRuntime, listener: &TcpListener) -> io::Result<Door> {
+/// The door of a listener, which doesn't block from here on, to a desk that has seen this.
+fn door_of(rt: &HostRuntime, listener: &TcpListener, seen: Seen) -> io::Result<Door> {
     listener.set_nonblocking(true)?;
     let poll = Poll::new(rt)?;
     let descriptor = listener.as_raw_fd();
@@ -150,7 +162,10 @@ fn door_of(rt: &HostRuntime, listener: &TcpListener) -> io::Result<Door> {
     Ok(Door {
         poll,
         events: Events::with_capacity(rt.alloc(), MOST_WAITING + 1)?,
-        waiting: Waiting::new(rt.alloc())?,
+        callers: Callers {
+            waiting: Waiting::new(rt.alloc())?,
+            seen,
+        },
         knocking: false,
     })
 }
@@ -168,16 +183,24 @@ fn serve_turn<J: Write, S: Alter + Drop>(
     requires known { AreTermsOf desk.old.plan terms.old }
     ensures usable { desk.old.is_usable ≡ true → (desk.new.is_usable ≡ true) ⊎ (result ≡ Err Fault.File) }
     ensures fault { IfErr result (λ fault. (fault ≡ Fault.File) ⊎ (fault ≡ Fault.Memory) ⊎ (fault ≡ Fault.Network)) }
-    ensures known { OnOk result (AreStillTermsOf desk.new.plan terms.old terms.new) }
+    ensures known { OnOk result (AreStillTermsOf desk.old.plan desk.new.plan terms.old terms.new) }
     ensures continues { Continues S.Store desk.old desk.new }
 {
     let limit = door.knocking.then_some(Duration::ZERO);
     if door.poll.poll(&mut door.events, limit).is_err() {
         return Err(Fault::Network);
     }
-    let told = serve_events(rt, &door.events, &mut door.waiting, journal, desk, terms)?;
+    let Ok(watch) = looked(rt, &mut door.callers.seen, desk.plan()) else {
+        return Err(Fault::Network);
+    };
+    terms.view.watch = Some(watch);
+    let told = serve_events(rt, &door.events, &mut door.callers, journal, desk, terms)?;
     if door.knocking || told {
-        let Ok(more) = door.waiting.take_knocking(door.poll.registry(), listener) else {
+        let Ok(more) = door
+            .callers
+            .waiting
+            .take_knocking(door.poll.registry(), listener)
+        else {
             return Err(Fault::Network);
         };
         door.knocking = more;
@@ -194,13 +217,14 @@ pub fn serve_polled<J: Write, S: Alter + Drop>(
     journal: &mut Journal<J>,
     desk: &mut Desk<S>,
     terms: &mut Terms,
+    seen: Seen,
 ) -> Fault
     requires known { AreTermsOf desk.old.plan terms.old }
     ensures usable { desk.old.is_usable ≡ true → (desk.new.is_usable ≡ true) ⊎ (result ≡ Fault.File) }
     ensures fault { (result ≡ Fault.File) ⊎ (result ≡ Fault.Memory) ⊎ (result ≡ Fault.Network) }
     ensures continues { Continues S.Store desk.old desk.new }
 {
-    let Ok(mut door) = door_of(rt, listener) else {
+    let Ok(mut door) = door_of(rt, listener, seen) else {
         return Fault::Network;
     };
     for _ in 0..u64::MAX {

@@ -13,6 +13,7 @@ ghost use Rattle.desk_runs.specs.Following.{AreFollowed, AreTermsOf};
 use super::following::{first_terms, follow};
 use super::journals::opened_journal;
 use super::polling::serve_polled;
+use super::seen::Seen;
 use super::serving::taken_port;
 use super::ticks::{is_behind, is_beyond, tell_gap, tick};
 use clap::ArgMatches;
@@ -27,6 +28,9 @@ use std::rt::HostRuntime;
 
 /// How many minutes after the plan's clock a request's moment may be, where the words don't say.
 const MINUTES_AHEAD: u32 = 1_440;
+
+/// From how many minutes on it is an alarm that the plan's clock stands, where the words don't say.
+const MINUTES_STALE: u32 = 3;
 
 /// How many minutes after the plan's clock `--at` may be, where the words don't say: thirty days.
 const MINUTES_GAP: u32 = 43_200;
@@ -45,9 +49,13 @@ fn listen<J: Write, S: Alter + Drop, W: Write>(
     ensures continues { Continues S.Store desk.old desk.new }
 {
     let listener = taken_port(rt, given)?;
+    let stale = given.get_one::<u32>("stale").unwrap_or(MINUTES_STALE);
+    let Ok(seen) = Seen::first(rt, desk.plan().clock(), u64::from(stale)) else {
+        return Err(Fault::Network);
+    };
     writeln!(out, "listening")?;
     out.flush()?;
-    Err(serve_polled(rt, &listener, journal, desk, terms))
+    Err(serve_polled(rt, &listener, journal, desk, terms, seen))
 }
 
 /// Brings the plan to the moment that the words give, where that is later than its clock; and gives the answer to the tick,

@@ -58,6 +58,33 @@ impl<C: Clock> Write for TimedStream<'_, C> {
     }
 }
 
+/// How many bytes of a request are kept.
+const MOST_HEARD: usize = 4096;
+
+/// A stream of which the first bytes that are read are kept.
+#[derive(Drop)]
+pub struct HeardStream<'a, 'h, C: Clock> {
+    stream: TimedStream<'a, C>,
+    heard: &'h mut Vec<u8>,
+}
+
+impl<'a, 'h, C: Clock> HeardStream<'a, 'h, C> {
+    /// A stream whose first bytes are put behind these.
+    pub fn new(stream: TimedStream<'a, C>, heard: &'h mut Vec<u8>) -> HeardStream<'a, 'h, C> {
+        HeardStream { stream, heard }
+    }
+}
+
+impl<C: Clock> Read for HeardStream<'_, '_, C> {
+    fn read(&mut self, buf: &mut [u8]) -> io::Result<usize> {
+        let count = self.stream.read(buf)?;
+        let room = MOST_HEARD.saturating_sub(self.heard.len());
+        let kept = count.min(room).min(buf.len());
+        self.heard.extend_from_slice(&buf[..kept])?;
+        Ok(count)
+    }
+}
+
 /// The stream that a reply is written to. Its time is an exchange's, and begins with the first byte of the reply, however
 /// long it took to make.
 #[derive(Drop)]

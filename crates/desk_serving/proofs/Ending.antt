@@ -1,12 +1,11 @@
 -- How an exchange ends, once it is known what is wanted.
-use Rattle.std.proofs.Common.{◌≡◌, refl, inl, inr, ℕ, ◌⊎◌, ◌++◌, List, [], Option, Result, Ok, Err, IfErr, IfOk, OnOk, take, subst, sym}
+use Rattle.std.proofs.Common.{◌≡◌, refl, inl, inr, ℕ, ◌⊎◌, List, [], Option, Result, Ok, Err, IfErr, IfOk, OnOk, take, subst, sym}
 use Rattle.std.specs.Io.KnownBytes.{Keeps, Appends}
 use Rattle.std.specs.declared.alloc.Global.{Global}
 use Rattle.std.specs.declared.vec.Vec.{Vec}
 use Rattle.std.proofs.KnownBytes.{Appends-nil}
 use Rattle.std.proofs.lemmas.Result.{IfErr-at_err}
 use Rattle.sqlite.specs.Store.{Ghosts}
-use Rattle.board_pages.specs.forecast_texts.specs.plan_outlooks.specs.forecasting.specs.Known.{since_in}
 use Rattle.http_messages.specs.declared.asking.Rejection.{Rejection}
 use Rattle.http_messages.specs.declared.looks.Look.{Look}
 use Rattle.http_messages.specs.declared.wanting.Asking.{Asking}
@@ -95,7 +94,7 @@ module _ {S : Type 0} (g : Ghosts S) (terms : Terms) (known : Option (List ℕ))
 
 module _ {S : Type 0} (g : Ghosts S) (terms : Terms) (known : Option (List ℕ)) (d : DeskState S) (kept : Option (List ℕ)) where
   -- what is looked at is served, and no line is taken
-  pub serves_look : (l : Look) → IsWanted known (Ok (wanted.Look l)) → (output : List ℕ) → Shows (since_in terms.known) l d output → (lines : List ℕ) × Serves g terms known d output lines d × Appends kept kept lines
+  pub serves_look : (l : Look) → IsWanted known (Ok (wanted.Look l)) → (output : List ℕ) → Shows terms l d output → (lines : List ℕ) × Serves g terms known d output lines d × Appends kept kept lines
   serves_look l is output shows = ([], (Ok (wanted.Look l), is, (shows, refl, refl)), Appends-nil kept)
 
   -- and so is the first test that fails

@@ -1,5 +1,5 @@
 -- A foreign request is told just that, since an input has one head.
-use Rattle.std.proofs.Common.{◌≡◌, ◌∙◌, refl, sym, ap, inl, inr, subst, ℕ, List, [], Option, Some, None, Result, Ok, Err, map, append-nil}
+use Rattle.std.proofs.Common.{◌≡◌, ◌∙◌, sym, ap, inl, inr, subst, ℕ, List, [], Option, Some, None, Result, Ok, Err, map, append-nil}
 use Rattle.std.specs.Io.KnownBytes.{Keeps, Appends}
 use Rattle.sqlite.specs.Store.{Ghosts}
 use Rattle.httparse.proofs.GrammarLemmas.{request_unique}
@@ -9,7 +9,6 @@ use Rattle.http_messages.specs.declared.asking.Rejection.{Rejection}
 use Rattle.http_messages.specs.declared.asking.Rejection.TheVariants as test
 use Rattle.http_messages.specs.declared.wanting.Wanted.{Wanted}
 use Rattle.http_messages.specs.declared.wanting.Wanted.TheVariants as wanted
-use Rattle.http_messages.specs.Fields.{values_of}
 use Rattle.http_messages.specs.Foreign.{IsForeign}
 use Rattle.http_messages.specs.Looks.{AnswersWanted}
 use Rattle.http_messages.specs.Tests.{IsRequestIn, Request}
@@ -18,7 +17,7 @@ use Rattle.tracker_http.specs.declared.replying.ServeFault.{ServeFault}
 use Rattle.tracker_http.specs.declared.replying.ServeFault.TheVariants as fault
 use Rattle.desk_serving.specs.declared.served.TheConstants.{MOST_SERVED_BYTES}
 use Rattle.desk_serving.specs.declared.terms.Terms.{Terms}
-use Rattle.desk_serving.specs.Served.{BreaksOff, Ends, EndsForeign, Exchanges, IsForeignInput, IsWanted, Writes}
+use Rattle.desk_serving.specs.Served.{BreaksOff, Ends, EndsForeign, IsForeignInput, IsWanted, Writes}
 
 -- what is foreign is so by its method and its fields
 same_foreign : (p q : Request) → p.method ≡ q.method → p.fields ≡ q.fields → IsForeign p → IsForeign q

@@ -3,7 +3,6 @@ use Rattle.std.specs.Prelude.{◌≡◌, ◌⊎◌, ℕ, List, [], ◌++◌, Opt
 use Rattle.std.specs.Io.KnownBytes.{Keeps, Appends}
 use Rattle.sqlite.specs.Store.{Ghosts}
 use Rattle.desk_serving.specs.Shown.{Shows}
-use Rattle.board_pages.specs.forecast_texts.specs.plan_outlooks.specs.forecasting.specs.Known.{since_in}
 use Rattle.tracker_http.specs.Told.{reply_of}
 use Rattle.tracker_http.specs.declared.told.Told.TheVariants as told
 use Rattle.http_messages.specs.Looks.{AnswersWanted}
@@ -33,7 +32,7 @@ IsWanted known found = IfSome known (λ input. AnswersWanted MOST_SERVED_BYTES i
 -- what is written and what the journal takes: where the desk is wanted, what it tells and both lines, or that the request is turned away; else what is shown, or the first test that fails, and then nothing changes and no line is taken
 abbrev pub Writes : {S : Type 0} → Ghosts S → Terms → Result Wanted Rejection → DeskState S → List ℕ → List ℕ → DeskState S → Type 0
 Writes g terms (Ok (wanted.Asked a)) d output lines e = AskedWrites g terms.ahead terms.bound a d output lines e
-Writes g terms (Ok (wanted.Look l)) d output lines e = Shows (since_in terms.known) l d output × (e ≡ d) × (lines ≡ [])
+Writes g terms (Ok (wanted.Look l)) d output lines e = Shows terms l d output × (e ≡ d) × (lines ≡ [])
 Writes g terms (Err test) d output lines e = (output ≡ reply_of (told.Fault (status_of_test test))) × (e ≡ d) × (lines ≡ [])
 
 -- the input of a connection, where it is known, leads to this output and these lines, and from this desk to that one

@@ -1,6 +1,11 @@
 -- What a look is shown of a desk.
 use Rattle.std.specs.Prelude.{◌≡◌, ◌⊎◌, Bool, if◌then◌else◌, ℕ, List, Option, Some, None, unwrap_or}
 use Rattle.board_pages.specs.Boards.{IsBoard}
+use Rattle.board_pages.specs.Pieces.{bytes}
+use Rattle.board_pages.specs.Refusals.{front_parts, refused_parts}
+use Rattle.board_pages.specs.declared.views.View.{View}
+use Rattle.board_pages.specs.declared.views.Watch.{Watch}
+use Rattle.board_pages.specs.forecast_texts.specs.plan_outlooks.specs.forecasting.specs.Known.{since_in}
 use Rattle.board_pages.specs.forecast_texts.specs.Texts.{IsForecastText}
 use Rattle.http_messages.specs.Replies.{page_reply, reply, text_reply}
 use Rattle.http_messages.specs.declared.looks.Look.{Look}
@@ -8,9 +13,10 @@ use Rattle.http_messages.specs.declared.looks.Look.TheVariants as look
 use Rattle.http_messages.specs.declared.looks.Page.{Page}
 use Rattle.http_messages.specs.declared.looks.Page.TheVariants as page
 use Rattle.http_messages.specs.declared.statuses.Status.TheVariants as status
-use Rattle.plan_basics.specs.KeyTexts.{IsOccurrenceText, IsOperationText}
-use Rattle.plan_basics.specs.Keys.{IsOccurrenceKey, IsOperationKey, Name}
+use Rattle.plan_basics.specs.KeyTexts.{IsOccurrenceText}
+use Rattle.plan_basics.specs.Keys.{IsOccurrenceKey, Name}
 use Rattle.plan_basics.specs.Names.{IsName}
+use Rattle.plan_basics.specs.Refusals.{name_of}
 use Rattle.plan_basics.specs.declared.Refusal.{Refusal}
 use Rattle.plan_basics.specs.declared.Refusal.TheVariants as refusal
 use Rattle.plan_basics.specs.declared.keys.OccKey.{OccKey}
@@ -19,26 +25,36 @@ use Rattle.plan_reports.specs.desk_tables.specs.Desk.{DeskState}
 use Rattle.plan_reports.specs.desk_tables.specs.plan_model.specs.Plan.{Plan}
 use Rattle.plan_reports.specs.desk_tables.specs.plan_records.specs.declared.Reply.TheVariants as answer
 use Rattle.plan_reports.specs.plan_shows.specs.Shows.{IsShow}
+use Rattle.plan_reports.specs.plan_shows.specs.Typed.{IsTypedOperation}
 use Rattle.plan_reports.specs.plan_shows.specs.Values.{health_data, started_refusal_of, IsStartedText}
 use Rattle.plan_reports.specs.plan_shows.specs.declared.shows.Show.{Show}
 use Rattle.plan_reports.specs.plan_shows.specs.declared.shows.Show.TheVariants as show
 use Rattle.plan_reports.specs.Reports.{desk_show_refusal_of, ready_refusal_of, refusal_of, why_refusal_of, IsErrorReport, IsLateReport, IsOccurrenceReport, IsReadyReport, IsWhyReport}
 use Rattle.serde_json.specs.Written.{compact_text}
-use Rattle.tracker_http.specs.Told.{reply_of}
+use Rattle.desk_serving.specs.declared.terms.Terms.{Terms}
+use Rattle.tracker_http.specs.Told.{reply_of, status_of_refusal}
 use Rattle.tracker_http.specs.declared.told.Told.TheVariants as told
 
 -- the reply that tells a refusal
 abbrev pub refused_reply : Refusal → List ℕ
 refused_reply r = reply_of (told.Answer (answer.Refused r))
 
+-- the reply that tells a refusal as a page, which loads again unless it is to be still
+abbrev pub refused_page_reply : Bool → Refusal → List ℕ
+refused_page_reply still r = page_reply (status_of_refusal r) (bytes (refused_parts still (name_of r)))
+
 -- the reply that tells a value by its text
 abbrev pub value_reply : List ℕ → List ℕ
 value_reply text = reply status.Success text
 
--- the refusal that is owed is told; where none is, such a text is, in a reply of this form
+-- the refusal that is owed is told in a reply of one form; where none is, such a text is, in one of the other
+abbrev pub ShowsBy : (Refusal → List ℕ) → (List ℕ → List ℕ) → Option Refusal → (List ℕ → Type 0) → List ℕ → Type 0
+ShowsBy refused form (Some r) IsText output = output ≡ refused r
+ShowsBy refused form None IsText output = (text : List ℕ) × IsText text × (output ≡ form text)
+
+-- so, the refusal as a value
 abbrev pub ShowsIn : (List ℕ → List ℕ) → Option Refusal → (List ℕ → Type 0) → List ℕ → Type 0
-ShowsIn form (Some r) IsText output = output ≡ refused_reply r
-ShowsIn form None IsText output = (text : List ℕ) × IsText text × (output ≡ form text)
+ShowsIn = ShowsBy refused_reply
 
 -- a text for people
 abbrev pub ShowsText : Option Refusal → (List ℕ → Type 0) → List ℕ → Type 0
@@ -60,9 +76,6 @@ refusal_or r usable P = unwrap_or (refusal_of usable P) r
 abbrev pub NamesOccurrence : List ℕ → OccKey → Type 0
 NamesOccurrence bytes c = IsOccurrenceKey c × IsOccurrenceText bytes c
 
-abbrev pub NamesOperation : List ℕ → OpKey → Type 0
-NamesOperation bytes o = IsOperationKey o × IsOperationText bytes o
-
 -- a show of the desk
 abbrev pub ShowsShow : {S : Type 0} → Show → DeskState S → List ℕ → Type 0
 ShowsShow s d output = ShowsText (desk_show_refusal_of d.is_usable s d.plan) (IsShow s d.plan d.receipts) output
@@ -75,23 +88,29 @@ ShowsStarted w d output = ShowsValue (owed_by d.is_usable (started_refusal_of w 
 abbrev pub ShowsForecast : {S : Type 0} → (OpKey → Option ℕ) → DeskState S → List ℕ → Type 0
 ShowsForecast starts d output = ShowsText (refusal_of d.is_usable d.plan) (IsForecastText d.plan starts d.plan.clock None) output
 
--- the board's page of it
-abbrev pub ShowsBoard : {S : Type 0} → (OpKey → Option ℕ) → DeskState S → List ℕ → Type 0
-ShowsBoard starts d output = ShowsIn page_reply (refusal_of d.is_usable d.plan) (IsBoard d.plan starts d.plan.clock None) output
+-- the board's page of it, looked at so; a refusal is a page too
+abbrev pub ShowsBoard : {S : Type 0} → (OpKey → Option ℕ) → View → DeskState S → List ℕ → Type 0
+ShowsBoard starts view d output = ShowsBy (refused_page_reply view.is_still) (page_reply status.Success) (refusal_of d.is_usable d.plan) (IsBoard d.plan starts d.plan.clock None view) output
 
--- what is shown under one path alone; the starts that are known are for forecasts
-abbrev pub ShowsPage : {S : Type 0} → (OpKey → Option ℕ) → Page → DeskState S → List ℕ → Type 0
-ShowsPage starts page.Occurrences d output = ShowsText (refusal_of d.is_usable d.plan) (IsOccurrenceReport d.plan) output
-ShowsPage starts page.Errors d output = ShowsText (refusal_of d.is_usable d.plan) (IsErrorReport d.plan) output
-ShowsPage starts page.Late d output = ShowsText (refusal_of d.is_usable d.plan) (IsLateReport d.plan) output
-ShowsPage starts page.ShowStarted d output = ShowsShow show.Started d output
-ShowsPage starts page.ShowResources d output = ShowsShow show.Resources d output
-ShowsPage starts page.ShowWorkstations d output = ShowsShow show.Workstations d output
-ShowsPage starts page.ShowTrackers d output = ShowsShow show.Trackers d output
-ShowsPage starts page.Started d output = ShowsStarted None d output
-ShowsPage starts page.Health d output = ShowsValue (owed_by d.is_usable None) (λ text. text ≡ compact_text (health_data d.plan)) output
-ShowsPage starts page.Forecast d output = ShowsForecast starts d output
-ShowsPage starts page.Board d output = ShowsBoard starts d output
+-- for how many minutes a plan's clock has stood, as far as it is known
+abbrev pub stood_in : Option Watch → ℕ
+stood_in (Some w) = w.stood
+stood_in None = 0
+
+-- what is shown under one path alone, by these terms
+abbrev pub ShowsPage : {S : Type 0} → Terms → Page → DeskState S → List ℕ → Type 0
+ShowsPage terms page.Front d output = output ≡ page_reply status.Success (bytes front_parts)
+ShowsPage terms page.Occurrences d output = ShowsText (refusal_of d.is_usable d.plan) (IsOccurrenceReport d.plan) output
+ShowsPage terms page.Errors d output = ShowsText (refusal_of d.is_usable d.plan) (IsErrorReport d.plan) output
+ShowsPage terms page.Late d output = ShowsText (refusal_of d.is_usable d.plan) (IsLateReport d.plan) output
+ShowsPage terms page.ShowStarted d output = ShowsShow show.Started d output
+ShowsPage terms page.ShowResources d output = ShowsShow show.Resources d output
+ShowsPage terms page.ShowWorkstations d output = ShowsShow show.Workstations d output
+ShowsPage terms page.ShowTrackers d output = ShowsShow show.Trackers d output
+ShowsPage terms page.Started d output = ShowsStarted None d output
+ShowsPage terms page.Health d output = ShowsValue (owed_by d.is_usable None) (λ text. text ≡ compact_text (health_data (stood_in terms.view.watch) d.plan)) output
+ShowsPage terms page.Forecast d output = ShowsForecast (since_in terms.known) d output
+ShowsPage terms page.Board d output = ShowsBoard (since_in terms.known) terms.view d output
 
 -- the report of what is ready on the workstation of this name; one that is no name is no plan's
 abbrev pub ShowsReady : {S : Type 0} → List ℕ → DeskState S → List ℕ → Type 0
@@ -108,8 +127,8 @@ ShowsStartedOn name d output =
 -- why the operation of this key doesn't go on at the plan's clock; what is no key is no plan's
 abbrev pub ShowsWhy : {S : Type 0} → List ℕ → DeskState S → List ℕ → Type 0
 ShowsWhy key d output =
-    ((o : OpKey) × NamesOperation key o × ShowsText (why_refusal_of d.is_usable d.plan o) (IsWhyReport d.plan o d.plan.clock) output)
-    ⊎ (((o : OpKey) → ¬ NamesOperation key o) × (output ≡ refused_reply (refusal_or refusal.UnknownOperation d.is_usable d.plan)))
+    ((o : OpKey) × IsTypedOperation key o × ShowsText (why_refusal_of d.is_usable d.plan o) (IsWhyReport d.plan o d.plan.clock) output)
+    ⊎ (((o : OpKey) → ¬ IsTypedOperation key o) × (output ≡ refused_reply (refusal_or refusal.UnknownOperation d.is_usable d.plan)))
 
 -- so, the operations of an occurrence
 abbrev pub ShowsOperations : {S : Type 0} → List ℕ → DeskState S → List ℕ → Type 0
@@ -117,10 +136,31 @@ ShowsOperations key d output =
     ((c : OccKey) × NamesOccurrence key c × ShowsShow (show.Operations c) d output)
     ⊎ (((c : OccKey) → ¬ NamesOccurrence key c) × (output ≡ refused_reply (refusal_or refusal.UnknownOccurrence d.is_usable d.plan)))
 
--- what a look is shown
-abbrev pub Shows : {S : Type 0} → (OpKey → Option ℕ) → Look → DeskState S → List ℕ → Type 0
-Shows starts (look.Page p) d output = ShowsPage starts p d output
-Shows starts (look.Ready name) d output = ShowsReady name.items d output
-Shows starts (look.Why key) d output = ShowsWhy key.items d output
-Shows starts (look.ShowOperations key) d output = ShowsOperations key.items d output
-Shows starts (look.StartedOn name) d output = ShowsStartedOn name.items d output
+-- so, its dependencies
+abbrev pub ShowsDependencies : {S : Type 0} → List ℕ → DeskState S → List ℕ → Type 0
+ShowsDependencies key d output =
+    ((c : OccKey) × NamesOccurrence key c × ShowsShow (show.Dependencies c) d output)
+    ⊎ (((c : OccKey) → ¬ NamesOccurrence key c) × (output ≡ refused_reply (refusal_or refusal.UnknownOccurrence d.is_usable d.plan)))
+
+-- so, what a rerun of an operation reaches
+abbrev pub ShowsReach : {S : Type 0} → List ℕ → DeskState S → List ℕ → Type 0
+ShowsReach key d output =
+    ((o : OpKey) × IsTypedOperation key o × ShowsShow (show.Reach o) d output)
+    ⊎ (((o : OpKey) → ¬ IsTypedOperation key o) × (output ≡ refused_reply (refusal_or refusal.UnknownOperation d.is_usable d.plan)))
+
+-- so, the open intervals of a workstation, by its name
+abbrev pub ShowsIntervals : {S : Type 0} → List ℕ → DeskState S → List ℕ → Type 0
+ShowsIntervals name d output =
+    (IsName 4 name × ShowsShow (show.Intervals name) d output)
+    ⊎ ((¬ IsName 4 name) × (output ≡ refused_reply (refusal_or refusal.UnknownWorkstation d.is_usable d.plan)))
+
+-- what a look is shown, by these terms
+abbrev pub Shows : {S : Type 0} → Terms → Look → DeskState S → List ℕ → Type 0
+Shows terms (look.Page p) d output = ShowsPage terms p d output
+Shows terms (look.Ready name) d output = ShowsReady name.items d output
+Shows terms (look.Why key) d output = ShowsWhy key.items d output
+Shows terms (look.ShowOperations key) d output = ShowsOperations key.items d output
+Shows terms (look.StartedOn name) d output = ShowsStartedOn name.items d output
+Shows terms (look.ShowDependencies key) d output = ShowsDependencies key.items d output
+Shows terms (look.ShowReach key) d output = ShowsReach key.items d output
+Shows terms (look.ShowIntervals name) d output = ShowsIntervals name.items d output

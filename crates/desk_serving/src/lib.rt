@@ -7,9 +7,10 @@
 mod forecasts;
 mod served;
 mod showing;
+mod tables;
 mod terms;
 
-pub use board_pages::KnownStarts;
+pub use board_pages::{Asked, KnownStarts, View, Watch};
 pub use plan_records::Reply;
 pub use plan_reports::{ReportFault, ready_report};
 pub use served::{MOST_SERVED_BYTES, serve_wanted};

@@ -37,7 +37,7 @@ fn wanted_reply<R: Read, J: Write, S: Alter + Drop>(
         Ok(Ok(Wanted::Asked(asking))) => {
             asked_reply(alloc, journal, desk, &asking, terms.ahead, terms.bound)
         }
-        Ok(Ok(Wanted::Look(look))) => Ok(look_shown(alloc, desk, &look, &terms.known)?),
+        Ok(Ok(Wanted::Look(look))) => Ok(look_shown(alloc, desk, &look, terms)?),
         Ok(Err(test)) => Ok(Told::Fault(test.status()).reply(alloc)?),
         Err(ExchangeFault::Memory) => Err(ServeFault::Memory),
         Err(ExchangeFault::Reader) => Err(ServeFault::Reader),

@@ -1,21 +1,22 @@
 // What looks are shown: replies of the desk's plan, by which nothing changes.
 ghost use Rattle.std.specs.Prelude.{◌≡◌, Err, IfErr, IfOk, IsErr, MatchResult, None, option_map};
-ghost use Rattle.board_pages.specs.forecast_texts.specs.plan_outlooks.specs.forecasting.specs.Known.{since_in};
 ghost use Rattle.http_messages.specs.Replies.{text_reply};
 ghost use Rattle.plan_reports.specs.plan_shows.specs.Values.{health_data, started_refusal_of, IsStartedText};
 ghost use Rattle.plan_reports.specs.Reports.{IsOwed};
 ghost use Rattle.plan_basics.specs.declared.Refusal.{Refusal};
 ghost use Rattle.serde_json.specs.Written.{compact_text};
-ghost use Rattle.desk_serving.specs.Shown.{owed_by, refusal_or, refused_reply, value_reply, Shows, ShowsOperations, ShowsPage, ShowsReady, ShowsShow, ShowsStartedOn, ShowsWhy};
+ghost use Rattle.desk_serving.specs.Shown.{owed_by, refusal_or, refused_reply, stood_in, value_reply, Shows, ShowsOperations, ShowsPage, ShowsReady, ShowsShow, ShowsStartedOn, ShowsWhy};
 
 use super::forecasts::{board_shown, forecast_shown};
-use board_pages::KnownStarts;
-use http_messages::{Look, Page, Status, reply_bytes, text_reply_bytes};
-use plan_basics::{OccKey, OpKey, Refusal, WsName};
+use super::tables::{dependencies_shown, intervals_shown, reach_shown};
+use super::terms::Terms;
+use board_pages::{Watch, front_page};
+use http_messages::{Look, Page, Status, page_reply_bytes, reply_bytes, text_reply_bytes};
+use plan_basics::{OccKey, Refusal, WsName};
 use plan_records::Reply;
 use plan_reports::{
-    Desk, Show, errors_made, health_text, late_made, occurrences_made, ready_made, show_made,
-    started_text, why_made,
+    Desk, Show, errors_made, health_text, late_made, occurrences_made, operation_typed, ready_made,
+    show_made, started_text, why_made,
 };
 use sqlite::Alter;
 use std::alloc::{AllocError, Global};
@@ -52,8 +53,8 @@ fn value_shown(alloc: Global, made: Result<Vec<u8>, Refusal>) -> Result<Vec<u8>,
     }
 }
 
-// The refusal that the desk owes to whoever asks for what no plan has.
-fn refusal_or<S: Alter + Drop>(desk: &Desk<S>, unknown: Refusal) -> Refusal
+/// The refusal that the desk owes to whoever asks for what no plan has.
+pub fn refusal_or<S: Alter + Drop>(desk: &Desk<S>, unknown: Refusal) -> Refusal
     ensures { result ≡ refusal_or unknown desk.now.is_usable desk.now.plan }
 {
     if !desk.is_usable() {
@@ -65,16 +66,30 @@ fn refusal_or<S: Alter + Drop>(desk: &Desk<S>, unknown: Refusal) -> Refusal
     }
 }
 
-// How the desk is, as JSON, or that it is to be opened again.
-fn health_made<S: Alter + Drop>(alloc: Global, desk: &Desk<S>) -> Result<Vec<u8>, Refusal>
-    ensures text { IfOk result (λ text. text.items ≡ compact_text (health_data desk.now.plan)) }
+// For how many minutes a plan's clock has stood, as far as it is known.
+fn stood_in(watch: &Option<Watch>) -> u64
+    ensures { result ≡ stood_in watch.now }
+{
+    match watch {
+        Some(watch) => watch.stood,
+        None => 0,
+    }
+}
+
+// How the desk is, whose clock has stood for so many minutes, as JSON, or that it is to be opened again.
+fn health_made<S: Alter + Drop>(
+    alloc: Global,
+    desk: &Desk<S>,
+    stood: u64,
+) -> Result<Vec<u8>, Refusal>
+    ensures text { IfOk result (λ text. text.items ≡ compact_text (health_data stood desk.now.plan)) }
     ensures none_owed { IfOk result (λ text. owed_by desk.now.is_usable None ≡ None) }
     ensures refused { IfErr result (IsOwed (owed_by desk.now.is_usable None)) }
 {
     if !desk.is_usable() {
         return Err(Refusal::Reopen);
     }
-    Ok(health_text(alloc, desk.plan())?)
+    Ok(health_text(alloc, desk.plan(), stood)?)
 }
 
 // What is started on a workstation, or on any, as JSON, or why there is none.
@@ -93,8 +108,8 @@ fn started_made<S: Alter + Drop>(
     started_text(alloc, desk.plan(), workstation)
 }
 
-// A show of the desk.
-fn show_shown<S: Alter + Drop>(
+/// A show of the desk.
+pub fn show_shown<S: Alter + Drop>(
     alloc: Global,
     desk: &Desk<S>,
     show: &Show,
@@ -109,11 +124,12 @@ fn page_shown<S: Alter + Drop>(
     alloc: Global,
     desk: &Desk<S>,
     page: Page,
-    known: &KnownStarts,
+    terms: &Terms,
 ) -> Result<Vec<u8>, AllocError>
-    ensures { IfOk result (λ output. ShowsPage (since_in known.now) page desk.now output.items) }
+    ensures { IfOk result (λ output. ShowsPage terms.now page desk.now output.items) }
 {
     match page {
+        Page::Front => page_reply_bytes(alloc, Status::Success, &front_page(alloc)?),
         Page::Occurrences => text_shown(alloc, occurrences_made(alloc, desk)),
         Page::Errors => text_shown(alloc, errors_made(alloc, desk)),
         Page::Late => text_shown(alloc, late_made(alloc, desk)),
@@ -122,9 +138,9 @@ fn page_shown<S: Alter + Drop>(
         Page::ShowWorkstations => show_shown(alloc, desk, &Show::Workstations),
         Page::ShowTrackers => show_shown(alloc, desk, &Show::Trackers),
         Page::Started => value_shown(alloc, started_made(alloc, desk, None)),
-        Page::Health => value_shown(alloc, health_made(alloc, desk)),
-        Page::Forecast => forecast_shown(alloc, desk, known),
-        Page::Board => board_shown(alloc, desk, known),
+        Page::Health => value_shown(alloc, health_made(alloc, desk, stood_in(&terms.view.watch))),
+        Page::Forecast => forecast_shown(alloc, desk, &terms.known),
+        Page::Board => board_shown(alloc, desk, &terms.known, &terms.view),
     }
 }
 
@@ -164,7 +180,7 @@ fn why_shown<S: Alter + Drop>(
 ) -> Result<Vec<u8>, AllocError>
     ensures { IfOk result (λ output. ShowsWhy key.now desk.now output.items) }
 {
-    match OpKey::from_text(key) {
+    match operation_typed(key) {
         Some(key) => text_shown(alloc, why_made(alloc, desk, &key, desk.plan().clock())),
         None => refused_shown(alloc, refusal_or(desk, Refusal::UnknownOperation)),
     }
@@ -184,20 +200,23 @@ fn operations_shown<S: Alter + Drop>(
     }
 }
 
-/// What a look is shown; forecasts take these known starts. It fails for want of memory only.
+/// What a look is shown by these terms. It fails for want of memory only.
 pub fn look_shown<S: Alter + Drop>(
     alloc: Global,
     desk: &Desk<S>,
     look: &Look,
-    known: &KnownStarts,
+    terms: &Terms,
 ) -> Result<Vec<u8>, AllocError>
-    ensures { IfOk result (λ output. Shows (since_in known.now) look.now desk.now output.items) }
+    ensures { IfOk result (λ output. Shows terms.now look.now desk.now output.items) }
 {
     match look {
-        Look::Page(page) => page_shown(alloc, desk, *page, known),
+        Look::Page(page) => page_shown(alloc, desk, *page, terms),
         Look::Ready(name) => ready_shown(alloc, desk, name),
         Look::Why(key) => why_shown(alloc, desk, key),
         Look::ShowOperations(key) => operations_shown(alloc, desk, key),
         Look::StartedOn(name) => started_shown(alloc, desk, name),
+        Look::ShowDependencies(key) => dependencies_shown(alloc, desk, key),
+        Look::ShowReach(key) => reach_shown(alloc, desk, key),
+        Look::ShowIntervals(name) => intervals_shown(alloc, desk, name),
     }
 }

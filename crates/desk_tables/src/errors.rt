@@ -10,7 +10,7 @@ use status_rules::Mark;
 use std::marker::Model;
 
 /// An operation in error: its key, its workstation and the code of the error.
-#[derive(Clone, Copy, Debug)]
+#[derive(Clone, Copy)]
 pub struct ErrorRow {
     pub op: OpKey,
     pub ws: WsName,

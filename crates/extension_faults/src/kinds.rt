@@ -1,7 +1,7 @@
 // A fault of a record of an extension's text, beside the plan.
 
 /// What is wrong with what a record says, beside the plan.
-#[derive(Clone, Copy, Debug, PartialEq, Eq)]
+#[derive(Clone, Copy)]
 pub enum Wrong {
     /// An occurrence is in the plan already, and stays there.
     There,
@@ -22,7 +22,7 @@ pub enum Wrong {
 }
 
 /// A fault beside the plan, and the place of its record: how many records are before it.
-#[derive(Clone, Copy, Debug, PartialEq, Eq)]
+#[derive(Clone, Copy)]
 pub struct FaultBeside {
     pub place: usize,
     pub wrong: Wrong,

@@ -1,3 +1,4 @@
 pub use Rattle.plan_outlooks
 pub mod Columns
+pub mod Hands
 pub mod Texts

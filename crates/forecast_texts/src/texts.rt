@@ -1,6 +1,6 @@
 // The text of a forecast.
 ghost use Rattle.std.specs.Prelude.{◌≡◌, ◌⊎◌, ◌∷◌, ◌++◌, IfErr, IfOk, OnOk, map};
-ghost use Rattle.forecast_texts.specs.Texts.{IsForecastText, forecast_text, never_words, paths_text, span, standstills_text};
+ghost use Rattle.forecast_texts.specs.Texts.{IsForecastText, forecast_text, hands_text, moment, named_text, never_words, over_text, paths_text, span, standstills_text};
 ghost use Rattle.plan_basics.specs.declared.Refusal.{Refusal};
 ghost use Rattle.plan_outlooks.specs.forecasting.specs.Known.{since_in};
 ghost use Rattle.plan_outlooks.specs.plan_forecast.specs.Ahead.{tick};
@@ -8,7 +8,10 @@ ghost use Rattle.plan_outlooks.specs.plan_records.specs.Answer.{refused};
 ghost use Rattle.plan_outlooks.specs.plan_records.specs.Step.{Step};
 ghost use Rattle.report_lines.specs.Lines.{report};
 
-use super::rows::{OccurrenceRows, OperationRows, PathRows, StandstillRows};
+use super::hands::{ByHand, work_by_hand};
+use super::rows::{
+    ByHandRows, NamedRows, OccurrenceRows, OperationRows, OverRows, PathRows, StandstillRows,
+};
 use plan_basics::{Moment, Refusal};
 use plan_outlooks::{
     KnownStarts, OccurrenceOutlook, OperationOutlook, Outlooks, PathMember, Plan, Standstill,
@@ -59,9 +62,46 @@ fn put_rest(alloc: Global, text: &mut Vec<u8>, told: &Outlooks) -> Result<(), Al
     text.extend_from_slice(&never)
 }
 
+// The first line of what is so at the moment of a forecast, and rows.
+fn part_at<L: Layout<R>, R>(
+    alloc: Global,
+    words: &[u8],
+    told: &Outlooks,
+    rows: &[R],
+) -> Result<Vec<u8>, AllocError>
+    ensures { IfOk result (λ text. text.items ≡ report (words.now ∷ moment told.now) (map L.columns rows.now)) }
+{
+    let at = moment_text(told.from);
+    let head = [Field::Word(words), Field::Word(b"AT"), Field::Word(&at)];
+    report::<L, R>(alloc, &head, rows)
+}
+
+// Puts what waits for a report of its start, what goes on longer than planned, and what people have to do, behind a text.
+fn put_watched(alloc: Global, text: &mut Vec<u8>, told: &Outlooks) -> Result<(), AllocError>
+    ensures { OnOk result (text.new.items ≡ text.old.items ++ named_text told.now ++ over_text told.now ++ hands_text told.now) }
+{
+    let named = part_at::<NamedRows, OperationOutlook>(
+        alloc,
+        b"NAMED AND NOT STARTED",
+        told,
+        &told.named,
+    )?;
+    text.extend_from_slice(&named)?;
+    let over = part_at::<OverRows, OperationOutlook>(
+        alloc,
+        b"LONGER THAN PLANNED",
+        told,
+        &told.over,
+    )?;
+    text.extend_from_slice(&over)?;
+    let rows = work_by_hand(alloc, told)?;
+    let by_hand = part::<ByHandRows, ByHand>(alloc, b"BY HAND", told, &rows)?;
+    text.extend_from_slice(&by_hand)
+}
+
 /// What a forecast tells, as a text: the occurrences that are neither complete nor deleted; the operations that begin or are
-/// going; the paths by which occurrences will be late; and the operations that never begin. It fails for want of memory
-/// only.
+/// going; the paths by which occurrences will be late; the operations that never begin; what was named and isn't started; what
+/// goes on longer than planned; and what people have to do. It fails for want of memory only.
 pub fn forecast_text(alloc: Global, told: &Outlooks) -> Result<Vec<u8>, AllocError>
     ensures { IfOk result (λ text. text.items ≡ forecast_text told.now) }
 {
@@ -79,6 +119,7 @@ pub fn forecast_text(alloc: Global, told: &Outlooks) -> Result<Vec<u8>, AllocErr
     )?;
     text.extend_from_slice(&operations)?;
     put_rest(alloc, &mut text, told)?;
+    put_watched(alloc, &mut text, told)?;
     Ok(text)
 }
 

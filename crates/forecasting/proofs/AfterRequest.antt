@@ -8,7 +8,7 @@ use Rattle.plan_model.specs.Contents.{Contents, Operation, nothing}
 use Rattle.plan_model.specs.Plan.{Plan}
 use Rattle.plan_model.specs.Status.{HasStatus}
 use Rattle.status_rules.specs.declared.Status.TheVariants.{Complete}
-use Rattle.plan_forecast.specs.Ahead.{Ahead, AreTimesAfter, HasWork, IsGoing}
+use Rattle.plan_forecast.specs.Ahead.{Ahead, AreTimesAfter, HasWork, IsGoing, counted_from}
 use Rattle.plan_records.specs.Acceptance.{minute_of}
 use Rattle.plan_records.specs.Answer.{accepted}
 use Rattle.plan_records.specs.Step.{Step}
@@ -20,8 +20,8 @@ use Rattle.forecasting.specs.InMemory.{GoesOn, IsInMemory, IsLike}
 use Rattle.forecasting.proofs.Keeping.{times_still, step_like, work_asked}
 
 -- the times of a plan's rows lead from one list to another
-abbrev pub MovesTimes : (Contents → OpKey → Type 0) → ℕ → List (Option ℕ) → List (Option ℕ) → Contents → Type 0
-MovesTimes so m before after P = (old : OpKey → Option ℕ) → AreTimesOf old (entries P.operations) before → (new : OpKey → Option ℕ) × AreTimesAfter (so P) m old new × AreTimesOf new (entries P.operations) after
+abbrev pub MovesTimes : (Contents → OpKey → Type 0) → (OpKey → ℕ) → List (Option ℕ) → List (Option ℕ) → Contents → Type 0
+MovesTimes so from before after P = (old : OpKey → Option ℕ) → AreTimesOf old (entries P.operations) before → (new : OpKey → Option ℕ) × AreTimesAfter (so P) from old new × AreTimesOf new (entries P.operations) after
 
 abbrev pub Completes : Contents → OpKey → Type 0
 Completes P o = HasStatus P o Complete
@@ -32,8 +32,8 @@ no_rows P none = ap (λ (Q : Contents). length (entries Q.operations)) none ∙ 
 pub no_row : (P : Contents) → P ≡ nothing → (i : ℕ) (o : OpKey) (op : Operation) → slice_get (entries P.operations) i ≡ Some (o, op) → ⊥
 no_row P none i o op at = let less = slice_get_within (entries P.operations) i (o, op) at in omega (arith, less, no_rows P none)
 
-pub none_set : (so : OpKey → Type 0) (P : Contents) → P ≡ nothing → (m : ℕ) (places : List ℕ) (before after : List (Option ℕ)) → AreSetAt so m (entries P.operations) places before after
-none_set so P none m places before after = record {
+pub none_set : (so : OpKey → Type 0) (P : Contents) → P ≡ nothing → (from : OpKey → ℕ) (places : List ℕ) (before after : List (Option ℕ)) → AreSetAt so from (entries P.operations) places before after
+none_set so P none from places before after = record {
   each = λ k o op y at was. absurd (no_row P none k o op at);
   here = λ k o op y z has at was is. absurd (no_row P none k o op at);
 }
@@ -57,7 +57,7 @@ module _ (s : Ahead) (until x : ℕ) (P after : Plan) (q : Request) (begun ended
   pub clock_onward : P.clock ≤ after.clock
   clock_onward = subst (λ m. P.clock ≤ m) (sym clock_is) (subst (λ (X : Plan). X.clock ≤ x) ahead.plan first.from)
 
-  pub goes_on : (begun' ended' : List (Option ℕ)) → length begun' ≡ length begun → length ended' ≡ length ended → MovesTimes IsGoing x begun begun' after.contents → MovesTimes Completes x ended ended' after.contents → GoesOn until s q after begun' ended'
+  pub goes_on : (begun' ended' : List (Option ℕ)) → length begun' ≡ length begun → length ended' ≡ length ended → MovesTimes IsGoing (counted_from after.contents x) begun begun' after.contents → MovesTimes Completes (λ o. x) ended ended' after.contents → GoesOn until s q after begun' ended'
   goes_on begun' ended' begun_size ended_size since done =
       let a = since s.since (times_still P.contents after.contents like_after s.since begun ahead.since) in
       let b = done s.done (times_still P.contents after.contents like_after s.done ended ahead.done) in (
@@ -68,8 +68,8 @@ module _ (s : Ahead) (until x : ℕ) (P after : Plan) (q : Request) (begun ended
         record {
           chosen = chosen;
           step = subst (λ (X : Plan). Step X q (accepted chosen) after) (sym ahead.plan) step;
-          since = subst (λ m. AreTimesAfter (IsGoing after.contents) m s.since a.0) (sym clock_is) a.1;
-          done = subst (λ m. AreTimesAfter (Completes after.contents) m s.done b.0) (sym clock_is) b.1;
+          since = subst (λ m. AreTimesAfter (IsGoing after.contents) (counted_from after.contents m) s.since a.0) (sym clock_is) a.1;
+          done = subst (λ m. AreTimesAfter (Completes after.contents) (λ o. m) s.done b.0) (sym clock_is) b.1;
         },
         record {
           plan = refl;

@@ -19,7 +19,7 @@ use Rattle.plan_records.specs.declared.PlanRow.{PlanRow}
 use Rattle.plan_records.specs.declared.PlanRow.TheVariants as row
 use Rattle.plan_records.specs.plan_drafts.specs.declared.RowKey.{RowKey}
 use Rattle.status_rules.specs.declared.Status.TheVariants as status
-use Rattle.plan_forecast.specs.Ahead.{IsGoing}
+use Rattle.plan_forecast.specs.Ahead.{IsGoing, counted_from}
 use Rattle.plan_forecast.proofs.Made.{going_told}
 use Rattle.forecasting.specs.Following.{AreAll, AreChangedPlaces, AreGoingAmong, AreGoingAt, ArePlaces, AreSetAt, AreTouched, HaveTimes, IsFollowed, IsNewAtMostAt}
 use Rattle.forecasting.specs.InMemory.{IsLike}
@@ -97,16 +97,16 @@ module _ (P : Contents) (every : List ℕ) (all : AreAll (length (entries P.oper
   pub all_going : (going next : List ℕ) → AreGoingAmong P going every next → AreGoingAt P next
   all_going going next among = record { within = among.within; all = λ i o op there is. among.all i o op (inr (all.all i (slice_get_within (entries P.operations) i (o, op) there))) there is }
 
-  module _ (valid : IsValid P) (m : ℕ) (begun begun' ended ended' : List (Option ℕ)) (since : AreSetAt (IsGoing P) m (entries P.operations) every begun begun') (done : AreSetAt (Completes P) m (entries P.operations) every ended ended') where
-    pub first_begun : MovesTimes IsGoing m begun begun' P
-    first_begun = moves (IsGoing P) m (entries P.operations) every begun begun' since (every_place (IsGoing P) begun) (going_told P valid.acyclic)
+  module _ (valid : IsValid P) (m : ℕ) (begun begun' ended ended' : List (Option ℕ)) (since : AreSetAt (IsGoing P) (counted_from P m) (entries P.operations) every begun begun') (done : AreSetAt (Completes P) (λ o. m) (entries P.operations) every ended ended') where
+    pub first_begun : MovesTimes IsGoing (counted_from P m) begun begun' P
+    first_begun = moves (IsGoing P) (counted_from P m) (entries P.operations) every begun begun' since (every_place (IsGoing P) begun) (going_told P valid.acyclic)
 
-    pub first_ended : MovesTimes Completes m ended ended' P
-    first_ended = moves (Completes P) m (entries P.operations) every ended ended' done (every_place (Completes P) ended) (λ o. status_told P valid.acyclic o status.Complete)
+    pub first_ended : MovesTimes Completes (λ o. m) ended ended' P
+    first_ended = moves (Completes P) (λ o. m) (entries P.operations) every ended ended' done (every_place (Completes P) ended) (λ o. status_told P valid.acyclic o status.Complete)
 
     pub first_followed : (going next : List ℕ) → length begun ≡ length (entries P.operations) → length ended ≡ length (entries P.operations) → AreGoingAmong P going every next → IsFollowed P next begun' ended'
     first_followed going next begun_size ended_size among = record {
       going = all_going going next among;
-      begun = have_times (IsGoing P) m (entries P.operations) every begun begun' since (every_place (IsGoing P) begun) begun_size;
-      ended = have_times (Completes P) m (entries P.operations) every ended ended' done (every_place (Completes P) ended) ended_size;
+      begun = have_times (IsGoing P) (counted_from P m) (entries P.operations) every begun begun' since (every_place (IsGoing P) begun) begun_size;
+      ended = have_times (Completes P) (λ o. m) (entries P.operations) every ended ended' done (every_place (Completes P) ended) ended_size;
     }

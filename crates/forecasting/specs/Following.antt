@@ -44,10 +44,10 @@ pub record IsFollowed (P : Contents) (places : List ℕ) (begun_times ended_time
   pub begun : HaveTimes (IsGoing P) (entries P.operations) begun_times
   pub ended : HaveTimes (λ o. HasStatus P o Complete) (entries P.operations) ended_times
 
--- at each index stands what stood there, or the time after m; and this at each of these indices
-pub record AreSetAt (is_so : OpKey → Type 0) (m : ℕ) (rows : List (OpKey × Operation)) (places : List ℕ) (before now : List (Option ℕ)) : Type 0 where
-  pub each : (k : ℕ) (o : OpKey) (op : Operation) (y : Option ℕ) → slice_get rows k ≡ Some (o, op) → slice_get before k ≡ Some y → (z : Option ℕ) × (slice_get now k ≡ Some z) × ((z ≡ y) ⊎ IsTimeAfter (is_so o) m y z)
-  pub here : (k : ℕ) (o : OpKey) (op : Operation) (y z : Option ℕ) → Contains places k → slice_get rows k ≡ Some (o, op) → slice_get before k ≡ Some y → slice_get now k ≡ Some z → IsTimeAfter (is_so o) m y z
+-- at each index stands what stood there, or the time after this minute of its operation; and this at each of these indices
+pub record AreSetAt (is_so : OpKey → Type 0) (from : OpKey → ℕ) (rows : List (OpKey × Operation)) (places : List ℕ) (before now : List (Option ℕ)) : Type 0 where
+  pub each : (k : ℕ) (o : OpKey) (op : Operation) (y : Option ℕ) → slice_get rows k ≡ Some (o, op) → slice_get before k ≡ Some y → (z : Option ℕ) × (slice_get now k ≡ Some z) × ((z ≡ y) ⊎ IsTimeAfter (is_so o) (from o) y z)
+  pub here : (k : ℕ) (o : OpKey) (op : Operation) (y z : Option ℕ) → Contains places k → slice_get rows k ≡ Some (o, op) → slice_get before k ≡ Some y → slice_get now k ≡ Some z → IsTimeAfter (is_so o) (from o) y z
 
 -- to the old indices come those of these alone at which something is going, and all of them
 pub record AddsGoing (P : Contents) (places old new : List ℕ) : Type 0 where

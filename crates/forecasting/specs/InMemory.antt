@@ -4,7 +4,7 @@ use Rattle.std.specs.FinMap.{entries, get, keys}
 use Rattle.plan_basics.specs.declared.keys.OpKey.{OpKey}
 use Rattle.plan_model.specs.Contents.{Contents, Operation}
 use Rattle.plan_model.specs.Plan.{Plan}
-use Rattle.plan_forecast.specs.Ahead.{Ahead, HasWork, IsNext, LeadsTo}
+use Rattle.plan_forecast.specs.Ahead.{Ahead, HasWork, IsNext, LeadsTo, start_by}
 use Rattle.plan_records.specs.declared.Request.{Request}
 use Rattle.forecasting.specs.Times.{AreTimesOf}
 
@@ -33,9 +33,9 @@ pub record IsLike (P Q : Contents) : Type 0 where
   pub rows : (i : ℕ) (o : OpKey) (op : Operation) → slice_get (entries Q.operations) i ≡ Some (o, op) → (old : Operation) × (slice_get (entries P.operations) i ≡ Some (o, old))
   pub found : (o : OpKey) (op : Operation) → get Q.operations o ≡ Some op → (old : Operation) × (get P.operations o ≡ Some old) × (op.not_before ≡ old.not_before)
 
--- of each row's operation its time
+-- of each row's operation what counts of its known start
 abbrev pub times_by : (OpKey → Option ℕ) → List (OpKey × Operation) → List (Option ℕ)
-times_by known rows = map (λ row. known row.0) rows
+times_by known rows = map (λ row. start_by row.1.mark row.1.not_before (known row.0)) rows
 
 -- so many operations have no time
 pub record NoTimes (count : ℕ) (times : List (Option ℕ)) : Type 0 where

@@ -1,33 +1,68 @@
--- Since when operations are going, as far as it is known, in memory.
-use Rattle.std.specs.Prelude.{◌≡◌, ◌≢◌, ◌⊎◌, ◌↔◌, ℕ, IsSome, Option, Some, unwrap_or}
-use Rattle.std.specs.Option.{option_flatten}
+-- Since when operations are going as they do, as far as it is known, in memory.
+use Rattle.std.specs.Prelude.{◌≡◌, ◌≢◌, ◌⊎◌, Bool, true, false, not, cond, ℕ, MatchOption, Option, Some, None}
 use Rattle.std.specs.BTreeMap as tree
 use Rattle.plan_basics.specs.contracts.keys.OpKeyOrd.TheImpl as derived
 use Rattle.plan_basics.specs.declared.keys.OpKey.{OpKey}
-use Rattle.plan_model.specs.Contents.{Contents}
+use Rattle.plan_model.specs.Contents.{Contents, Has}
+use Rattle.status_rules.specs.declared.Mark.{Mark}
+use Rattle.status_rules.specs.declared.Mark.TheVariants as mark
 use Rattle.plan_forecast.specs.Ahead.{IsGoing}
 use Rattle.forecasting.specs.declared.known.KnownStarts.{KnownStarts}
+use Rattle.forecasting.specs.declared.known.Noted.{Noted}
 
--- what is kept of an operation, if anything is: the minute since which it is going, if that is known
-abbrev pub entry_of : KnownStarts → OpKey → Option (Option ℕ)
+-- whether a start is reported by the mark
+abbrev pub is_running : Mark → Bool
+is_running mark.Running = true
+is_running m = false
+
+-- whether two are alike
+abbrev pub is_alike : Bool → Bool → Bool
+is_alike true b = b
+is_alike false b = not b
+
+-- what is noted of an operation, if anything is
+abbrev pub entry_of : KnownStarts → OpKey → Option Noted
 entry_of known o = tree.get derived.ghosts.cmp known.going o
 
--- the minute since which an operation is going, if it is known
+-- the minute since which an operation is going as it does, if it is known
+abbrev pub since_noted : Option Noted → Option ℕ
+since_noted None = None
+since_noted (Some e) = e.since
+
 abbrev pub since_in : KnownStarts → OpKey → Option ℕ
-since_in known o = option_flatten (entry_of known o)
+since_in known o = since_noted (entry_of known o)
 
--- something is kept of what is going, and of nothing else
-abbrev pub AreOfGoing : Contents → KnownStarts → Type 0
-AreOfGoing P known = (o : OpKey) → IsSome (entry_of known o) ↔ IsGoing P o
+-- whether it runs is noted of o, which is going
+abbrev pub IsNotedOf : Contents → OpKey → Noted → Type 0
+IsNotedOf P o e = IsGoing P o × Has P o (λ op. e.is_running ≡ is_running op.mark)
 
--- and of each what the old one keeps, or this where it keeps nothing
+-- the table follows this plan: that is noted of what is going, and nothing of anything else
+pub record AreOfGoing (P : Contents) (known : KnownStarts) : Type 0 where
+  pub follows : known.follows ≡ true
+  pub noted : (o : OpKey) → MatchOption (entry_of known o) (¬ IsGoing P o) (IsNotedOf P o)
+
+-- what a request gives as the start of what goes on in another way by it: its moment, where a plan has been followed up to it
+abbrev pub fresh_at : Bool → ℕ → Option ℕ
+fresh_at true clock = Some clock
+fresh_at false clock = None
+
+-- what is kept of what runs, or doesn't, by what was noted before: its minute where that is alike, else this
+abbrev pub kept_by : Option Noted → Bool → Option ℕ → Option ℕ
+kept_by None runs fresh = fresh
+kept_by (Some e) runs fresh = cond (is_alike e.is_running runs) e.since fresh
+
+-- so it is of all that is noted in the new table
 abbrev pub AreKeptOf : KnownStarts → Option ℕ → KnownStarts → Type 0
-AreKeptOf old fresh new = (o : OpKey) (since : Option ℕ) → entry_of new o ≡ Some since → since ≡ unwrap_or (entry_of old o) fresh
+AreKeptOf old fresh new = (o : OpKey) (e : Noted) → entry_of new o ≡ Some e → e.since ≡ kept_by (entry_of old o) e.is_running fresh
 
--- this is kept of o, and of each other what was kept before
-abbrev pub IsKept : OpKey → Option ℕ → KnownStarts → KnownStarts → Type 0
-IsKept o since old new = (entry_of new o ≡ Some since) × ((p : OpKey) → p ≢ o → entry_of new p ≡ entry_of old p)
+-- what is noted of an operation of this mark
+abbrev pub noted_by : Option Noted → Mark → Option ℕ → Noted
+noted_by old m fresh = record { is_running = is_running m; since = kept_by old (is_running m) fresh }
 
--- so it is if this is so; else all is kept as before
-abbrev pub IsKeptIf : Type 0 → OpKey → Option ℕ → KnownStarts → KnownStarts → Type 0
-IsKeptIf is_so o since old new = (is_so × IsKept o since old new) ⊎ (¬ is_so × (new ≡ old))
+-- this is noted of o, and of each other what was noted before
+abbrev pub IsKept : OpKey → Noted → KnownStarts → KnownStarts → Type 0
+IsKept o e old new = (entry_of new o ≡ Some e) × ((p : OpKey) → p ≢ o → entry_of new p ≡ entry_of old p) × (new.follows ≡ old.follows)
+
+-- so it is if this is so; else all is noted as before
+abbrev pub IsKeptIf : Type 0 → OpKey → Noted → KnownStarts → KnownStarts → Type 0
+IsKeptIf is_so o e old new = (is_so × IsKept o e old new) ⊎ (¬ is_so × (new ≡ old))

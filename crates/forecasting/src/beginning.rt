@@ -13,6 +13,7 @@ ghost use Rattle.forecasting.specs.Turns.{IsHorizon};
 ghost use Rattle.forecasting.specs.InMemory.{NoTimes, times_by};
 
 use super::known::KnownStarts;
+use super::timing::counted_start;
 use super::turns::{Horizon, lasting_turns};
 use derived_figures::LoadedPlan;
 use plan_basics::{Moment, Refusal};
@@ -67,7 +68,7 @@ pub(crate) fn count_of(plan: &Plan) -> usize
     }
 }
 
-// Since when the operations of a loaded plan are going, as far as it is known.
+// What counts of the known starts of the operations of a loaded plan.
 fn known_times_in(
     alloc: Global,
     loaded: &LoadedPlan,
@@ -78,12 +79,13 @@ fn known_times_in(
     let rows = loaded.contents().operations();
     let mut times = Vec::with_capacity(alloc, rows.len())?;
     for place in 0..rows.len() {
-        times.push(known.start_of(&rows[place].0))?;
+        let row = &rows[place];
+        times.push(counted_start(&row.1, known.start_of(&row.0)))?;
     }
     Ok(times)
 }
 
-/// Since when the operations of a plan are going, as far as it is known.
+/// What counts of the known starts of the operations of a plan.
 pub(crate) fn known_times(
     plan: &Plan,
     known: &KnownStarts,

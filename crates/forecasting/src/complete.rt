@@ -45,7 +45,7 @@ pub(crate) fn set_done(
     requires size { length done.old ≡ length (entries loaded.now.operations) }
     requires within { ArePlaces loaded.now places.now }
     ensures size { length done.new ≡ length done.old }
-    ensures times { AreSetAt (λ o. HasStatus loaded.now o Complete) at (entries loaded.now.operations) places.now done.old done.new }
+    ensures times { AreSetAt (λ o. HasStatus loaded.now o Complete) (λ o. at) (entries loaded.now.operations) places.now done.old done.new }
 {
     read_for_proof(loaded);
     for place in places {

@@ -38,10 +38,9 @@ fn requests_from(
     until: Moment,
 ) -> Result<Vec<Request>, Refusal>
     requires first { first ≡ tick at }
-    requires step { (P : PlanValue) × (chosen : List OpKey) × Step P (tick at) (accepted chosen) plan.old.plan }
-    requires since { (known : OpKey → Option ℕ) × (since.old ≡ times_by known (entries plan.old.plan.contents.operations)) }
+    requires begun { (P : PlanValue) × (known : OpKey → Option ℕ) × (chosen : List OpKey) × (since.old ≡ times_by known (entries P.contents.operations)) × Step P (tick at) (accepted chosen) plan.old.plan }
     requires done { NoTimes (length (entries plan.old.plan.contents.operations)) done.old }
-    ensures made { IfOk result (λ requests. (P : PlanValue) (known : OpKey → Option ℕ) (chosen : List OpKey) → since.old ≡ times_by known (entries plan.old.plan.contents.operations) → Step P (tick at) (accepted chosen) plan.old.plan → (t : Ahead) × IsForecast P known at until requests.items t × IsInMemory t plan.new.plan since.new done.new) }
+    ensures made { IfOk result (λ requests. (P : PlanValue) (known : OpKey → Option ℕ) (chosen : List OpKey) → since.old ≡ times_by known (entries P.contents.operations) → Step P (tick at) (accepted chosen) plan.old.plan → (t : Ahead) × IsForecast P known at until requests.items t × IsInMemory t plan.new.plan since.new done.new) }
     ensures memory { IfErr result (λ r. r ≡ Refusal.Memory) }
 {
     let every = every_place(plan.alloc(), count_of(plan))?;
@@ -57,9 +56,10 @@ fn requests_from(
 }
 
 /// Makes the forecast of a plan from a moment up to another one in the plan itself, which is led to its end; or says what a tick at
-/// that moment is refused for, or want of memory. What is going is timed by its known start, and ends at that moment where it is over
-/// already; with none it is as if it began then. Starts should be known of what is going alone, as by a table that has followed the
-/// plan: any other counts as the operation's next one.
+/// that moment is refused for, or want of memory. What runs, or is ready where its completion alone is reported, is timed by its
+/// known start, and ends at that moment where it is over already; with none, and where it is only named, it is as if it began then.
+/// Starts should be known of what is going alone, as by a table that has followed the plan: any other counts as the operation's next
+/// one.
 pub fn forecast(
     plan: &mut Plan,
     known: &KnownStarts,
@@ -69,8 +69,8 @@ pub fn forecast(
     ensures forecast { IfOk result (λ f. (t : Ahead) × IsForecast plan.old.plan (since_in known.now) at until f.requests.items t × IsInMemory t plan.new.plan f.since.items f.done.items) }
     ensures refused { IfErr result (λ r. (r ≡ Refusal.Memory) ⊎ Step plan.old.plan (tick at) (refused r) plan.old.plan) }
 {
-    let first = begin(plan, at)?;
     let mut since = known_times(plan, known)?;
+    let first = begin(plan, at)?;
     let mut done = no_times(plan.alloc(), count_of(plan))?;
     let requests = requests_from(plan, &mut since, &mut done, first, at, until)?;
     Ok(Foretold {

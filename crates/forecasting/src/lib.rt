@@ -1,6 +1,6 @@
 //! The forecast of a plan: its requests, made one after another in the plan itself, and what it asks of that plan: what is going, what
 //! is due, what may begin. Who wants to keep the plan forecasts in a copy of it. A table that follows a plan keeps since when operations
-//! are going.
+//! are going as they do.
 #![tactic(auto)]
 
 mod beginning;
@@ -22,3 +22,4 @@ mod work;
 pub use foretelling::{Foretold, forecast};
 pub use going::is_going;
 pub use known::KnownStarts;
+pub use timing::counted_start;

@@ -8,7 +8,7 @@ ghost use Rattle.plan_model.specs.Status.{HasStatus};
 ghost use Rattle.status_rules.specs.declared.Status.TheVariants.{Complete};
 ghost use Rattle.forecasting.specs.Following.{ArePlaces, AreSetAt, IsFollowed};
 ghost use Rattle.forecasting.specs.Turns.{IsFirstWork};
-ghost use Rattle.plan_forecast.specs.Ahead.{Ahead, IsGoing};
+ghost use Rattle.plan_forecast.specs.Ahead.{Ahead, IsGoing, counted_from};
 ghost use Rattle.forecasting.specs.InMemory.{GoesOn, IsInMemory, IsLike};
 
 use super::carrying::carry_out;
@@ -40,8 +40,8 @@ pub(crate) fn set_times(
     requires within { ArePlaces plan.now.plan.contents places.now }
     ensures since_size { length since.new ≡ length since.old }
     ensures done_size { length done.new ≡ length done.old }
-    ensures since { AreSetAt (IsGoing plan.now.plan.contents) at (entries plan.now.plan.contents.operations) places.now since.old since.new }
-    ensures done { AreSetAt (λ o. HasStatus plan.now.plan.contents o Complete) at (entries plan.now.plan.contents.operations) places.now done.old done.new }
+    ensures since { AreSetAt (IsGoing plan.now.plan.contents) (counted_from plan.now.plan.contents at) (entries plan.now.plan.contents.operations) places.now since.old since.new }
+    ensures done { AreSetAt (λ o. HasStatus plan.now.plan.contents o Complete) (λ o. at) (entries plan.now.plan.contents.operations) places.now done.old done.new }
 {
     read_for_proof(plan);
     match plan.loaded() {

@@ -3,5 +3,4 @@ pub mod Guarded
 pub mod Fronts
 pub mod Answered
 pub mod WantedAnswers
-pub mod Paths
 pub mod RoutesFound

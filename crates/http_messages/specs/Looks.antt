@@ -18,6 +18,7 @@ use Rattle.http_messages.specs.Tests.{Request, AsksIn, FailsIn, IsRequestIn}
 
 -- the path of a page
 abbrev pub page_path : Page → List ℕ
+page_path page.Front = codes "/"
 page_path page.Occurrences = codes "/report/occurrences"
 page_path page.Errors = codes "/report/errors"
 page_path page.Late = codes "/report/late"
@@ -41,6 +42,9 @@ IsLookPath (look.Ready name) path = GoesOnBy (codes "/report/ready/") path name.
 IsLookPath (look.Why key) path = GoesOnBy (codes "/why/") path key.items
 IsLookPath (look.ShowOperations key) path = GoesOnBy (codes "/show/operations/") path key.items
 IsLookPath (look.StartedOn name) path = GoesOnBy (codes "/started/") path name.items
+IsLookPath (look.ShowDependencies key) path = GoesOnBy (codes "/show/dependencies/") path key.items
+IsLookPath (look.ShowReach key) path = GoesOnBy (codes "/show/reach/") path key.items
+IsLookPath (look.ShowIntervals name) path = GoesOnBy (codes "/show/intervals/") path name.items
 
 -- the target's path is no look's
 abbrev pub NoLook : List ℕ → Type 0

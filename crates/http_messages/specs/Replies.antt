@@ -34,5 +34,5 @@ abbrev pub text_reply : List ℕ → List ℕ
 text_reply body = typed_reply (codes "text/plain; charset=utf-8") status.Success body
 
 -- a reply whose body is a page of a browser
-abbrev pub page_reply : List ℕ → List ℕ
-page_reply body = typed_reply (codes "text/html; charset=utf-8") status.Success body
+abbrev pub page_reply : Status → List ℕ → List ℕ
+page_reply status body = typed_reply (codes "text/html; charset=utf-8") status body

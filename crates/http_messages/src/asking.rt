@@ -25,7 +25,7 @@ pub const MOST_FIELDS: usize = 64;
 pub const MOST_BODY_BYTES: usize = LONGEST_REQUEST_TEXT;
 
 /// What a request asks the desk for, its form being in order.
-#[derive(Debug, Drop, PartialEq, Eq)]
+#[derive(Drop)]
 pub enum Asked {
     /// That a tracker's report be taken: the body.
     Report(Vec<u8>),
@@ -38,7 +38,7 @@ pub enum Asked {
 }
 
 /// The tests of a request's form, in their order.
-#[derive(Clone, Copy, Debug, PartialEq, Eq)]
+#[derive(Clone, Copy)]
 pub enum Rejection {
     /// The input begins with no head that is short enough.
     NoHead,
@@ -86,7 +86,7 @@ impl Rejection {
 }
 
 /// Why an exchange could not be read.
-#[derive(Clone, Copy, Debug, PartialEq, Eq)]
+#[derive(Clone, Copy)]
 pub enum ExchangeFault {
     /// Memory lacked.
     Memory,
@@ -138,8 +138,7 @@ pub(crate) fn answer_of<R: Read>(
     ensures reader_fault { (result ≡ Err ExchangeFault.Reader) ↔ (failed_of reader.new ≡ true) }
 {
     let target = head.target();
-    let line = route_of_line(alloc, head.method(), target)?;
-    let route = match line {
+    let route = match route_of_line(head.method(), target) {
         Ok(route) => route,
         Err(test) => return Ok(Err(test)),
     };

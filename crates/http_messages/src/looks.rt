@@ -6,14 +6,17 @@ ghost use Rattle.http_messages.specs.declared.looks.Page.{Page as PageValue};
 ghost use Rattle.http_messages.specs.declared.looks.Look.{Look as LookValue};
 
 use crate::asking::Rejection;
+use crate::bytes::rest_after;
 use crate::routes::path_of;
 use crate::statuses::Method;
 use percent_encoding::percent_decode;
 use std::alloc::{AllocError, Global};
 
 /// What is shown under one path alone.
-#[derive(Clone, Copy, Debug, PartialEq, Eq)]
+#[derive(Clone, Copy)]
 pub enum Page {
+    /// The page that leads to all others.
+    Front,
     /// The report of occurrences.
     Occurrences,
     /// The report of errors.
@@ -39,7 +42,7 @@ pub enum Page {
 }
 
 /// What a request looks at. Names and keys are bytes, which may be none.
-#[derive(Debug, Drop, PartialEq, Eq)]
+#[derive(Drop)]
 pub enum Look {
     /// What is shown under one path alone.
     Page(Page),
@@ -51,12 +54,21 @@ pub enum Look {
     ShowOperations(Vec<u8>),
     /// What is started on a workstation, by its name, as JSON.
     StartedOn(Vec<u8>),
+    /// The table of an occurrence's dependencies, by its key.
+    ShowDependencies(Vec<u8>),
+    /// The table of what a rerun of an operation reaches, by its key.
+    ShowReach(Vec<u8>),
+    /// The table of a workstation's open intervals, by its name.
+    ShowIntervals(Vec<u8>),
 }
 
 // The page of a path, if it has one.
 fn page_of(path: &[u8]) -> Option<Page>
     ensures { MatchOption result ((p : PageValue) → path.now ≢ page_path p) (λ p. path.now ≡ page_path p) }
 {
+    if path == "/".as_bytes() {
+        return Some(Page::Front);
+    }
     if path == "/report/occurrences".as_bytes() {
         return Some(Page::Occurrences);
     }
@@ -93,20 +105,6 @@ fn page_of(path: &[u8]) -> Option<Page>
     None
 }
 
-// What a path has after this, if it begins with it and goes on.
-fn rest_after<'a>(path: &'a [u8], before: &[u8]) -> Option<&'a [u8]>
-    ensures { MatchOption result ((rest : List ℕ) → 0 < length rest → path.now ≢ before.now ++ rest) (λ rest. (0 < length rest.now) × (path.now ≡ before.now ++ rest.now)) }
-{
-    let rest = match path.strip_prefix(before) {
-        Some(rest) => rest,
-        None => return None,
-    };
-    if rest.is_empty() {
-        return None;
-    }
-    Some(rest)
-}
-
 // A text without its escapes.
 fn unescaped(alloc: Global, text: &[u8]) -> Result<Vec<u8>, AllocError>
     ensures { IfOk result (λ bytes. bytes.items ≡ unescaped text.now) }
@@ -134,6 +132,15 @@ fn look_of(alloc: Global, path: &[u8]) -> Result<Option<Look>, AllocError>
     }
     if let Some(rest) = rest_after(path, b"/started/") {
         return Ok(Some(Look::StartedOn(unescaped(alloc, rest)?)));
+    }
+    if let Some(rest) = rest_after(path, b"/show/dependencies/") {
+        return Ok(Some(Look::ShowDependencies(unescaped(alloc, rest)?)));
+    }
+    if let Some(rest) = rest_after(path, b"/show/reach/") {
+        return Ok(Some(Look::ShowReach(unescaped(alloc, rest)?)));
+    }
+    if let Some(rest) = rest_after(path, b"/show/intervals/") {
+        return Ok(Some(Look::ShowIntervals(unescaped(alloc, rest)?)));
     }
     Ok(None)
 }

@@ -38,9 +38,9 @@ pub fn text_reply_bytes(alloc: Global, body: &[u8]) -> Result<Vec<u8>, AllocErro
     typed_bytes(alloc, "text/plain; charset=utf-8", Status::Success, body)
 }
 
-/// A whole reply to a request that was accepted, whose body is a page of a browser. It fails for want of memory only.
-pub fn page_reply_bytes(alloc: Global, body: &[u8]) -> Result<Vec<u8>, AllocError>
-    ensures { IfOk result (λ bytes. bytes.items ≡ page_reply body.now) }
+/// A whole reply to a request, whose body is a page of a browser. It fails for want of memory only.
+pub fn page_reply_bytes(alloc: Global, status: Status, body: &[u8]) -> Result<Vec<u8>, AllocError>
+    ensures { IfOk result (λ bytes. bytes.items ≡ page_reply status body.now) }
 {
-    typed_bytes(alloc, "text/html; charset=utf-8", Status::Success, body)
+    typed_bytes(alloc, "text/html; charset=utf-8", status, body)
 }

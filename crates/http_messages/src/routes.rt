@@ -2,19 +2,17 @@
 ghost use Rattle.std.specs.Prelude.{◌≡◌, List, ℕ, IfOk, MatchOption, MatchResult};
 ghost use Rattle.percent_encoding.specs.Percent.{percent_decode as unescaped};
 ghost use Rattle.http_messages.specs.Routes.{path_of as path_before, IsReadyPath, Matches, method_of};
-ghost use Rattle.http_messages.specs.Routers.{table};
 ghost use Rattle.http_messages.specs.Statuses.{method_text};
 ghost use Rattle.http_messages.specs.Tests.{Takes, FailsIn};
 
 use crate::asking::Rejection;
-use crate::bytes::before;
+use crate::bytes::{before, rest_after};
 use crate::statuses::Method;
-use matchit::{InsertError, Router};
 use percent_encoding::percent_decode;
 use std::alloc::{AllocError, Global};
 
 /// What a path stands for.
-#[derive(Clone, Copy, Debug, PartialEq, Eq)]
+#[derive(Clone, Copy)]
 pub(crate) enum Route {
     Report,
     Operator,
@@ -44,54 +42,58 @@ pub(crate) fn path_of(target: &[u8]) -> &[u8]
     before(target, b'?')
 }
 
-/// The routes, each under its path.
-fn router(alloc: Global) -> Result<Router<Route>, InsertError>
-    ensures { IfOk result (λ router. router ≡ table) }
+/// The segment that a path has after `/ready/`, if that is all that it has.
+fn ready_segment(path: &[u8]) -> Option<&[u8]>
+    ensures { MatchOption result ((segment : List ℕ) → ¬ IsReadyPath path.now segment) (λ segment. IsReadyPath path.now segment.now) }
 {
-    let mut router = Router::new(alloc);
-    router.insert("/report", Route::Report)?;
-    router.insert("/operator", Route::Operator)?;
-    router.insert("/ready/{ws}", Route::Ready)?;
-    router.insert("/occurrences", Route::Occurrences)?;
-    Ok(router)
+    let rest = match rest_after(path, READY) {
+        Some(rest) => rest,
+        None => return None,
+    };
+    if rest.contains(&b'/') {
+        return None;
+    }
+    Some(rest)
 }
 
 /// The route of a path, if it has one.
-fn route_of(alloc: Global, path: &[u8]) -> Result<Option<Route>, AllocError>
-    ensures { IfOk result (λ found. MatchOption found ((r : Route) → ¬ Matches path.now r) (Matches path.now)) }
+fn route_of(path: &[u8]) -> Option<Route>
+    ensures { MatchOption result ((r : Route) → ¬ Matches path.now r) (Matches path.now) }
 {
-    let Ok(text) = std::str::from_utf8(path) else {
-        return Ok(None);
-    };
-    let Ok(router) = router(alloc) else {
-        return Err(AllocError);
-    };
-    match router.at(text) {
-        Ok(found) => Ok(Some(*found.value)),
-        Err(_) => Ok(None),
+    if std::str::from_utf8(path).is_err() {
+        return None;
     }
+    if path == "/report".as_bytes() {
+        return Some(Route::Report);
+    }
+    if path == "/operator".as_bytes() {
+        return Some(Route::Operator);
+    }
+    if path == "/occurrences".as_bytes() {
+        return Some(Route::Occurrences);
+    }
+    if ready_segment(path).is_some() {
+        return Some(Route::Ready);
+    }
+    None
 }
 
 /// The route that a request's first line takes, or the first test of the line that it fails.
-pub(crate) fn route_of_line(
-    alloc: Global,
-    method: &[u8],
-    target: &[u8],
-) -> Result<Result<Route, Rejection>, AllocError>
-    ensures { IfOk result (λ line. (most : ℕ) (fields : List (List ℕ × List ℕ)) (rest : List ℕ)
-        → MatchResult line (Takes (record { method = method.now; target = target.now; fields = fields; rest = rest }))
-        (FailsIn most (record { method = method.now; target = target.now; fields = fields; rest = rest }))) }
+pub(crate) fn route_of_line(method: &[u8], target: &[u8]) -> Result<Route, Rejection>
+    ensures { (most : ℕ) (fields : List (List ℕ × List ℕ)) (rest : List ℕ)
+        → MatchResult result (Takes (record { method = method.now; target = target.now; fields = fields; rest = rest }))
+        (FailsIn most (record { method = method.now; target = target.now; fields = fields; rest = rest })) }
 {
     if target.first() != Some(&b'/') {
-        return Ok(Err(Rejection::OtherForm));
+        return Err(Rejection::OtherForm);
     }
-    let Some(route) = route_of(alloc, path_of(target))? else {
-        return Ok(Err(Rejection::NoRoute));
+    let Some(route) = route_of(path_of(target)) else {
+        return Err(Rejection::NoRoute);
     };
     if method != route.method().as_str().as_bytes() {
-        return Ok(Err(Rejection::OtherMethod(route.method())));
+        return Err(Rejection::OtherMethod(route.method()));
     }
-    Ok(Ok(route))
+    Ok(route)
 }
 
 /// The segment that names a workstation, without its escapes.

@@ -6,7 +6,7 @@ ghost use Rattle.http_messages.specs.Statuses.{method_text, code_of, phrase_of, 
 use http::StatusCode;
 
 /// The methods that requests are made with.
-#[derive(Clone, Copy, Debug, PartialEq, Eq)]
+#[derive(Clone, Copy)]
 pub enum Method {
     /// Asks for a list.
     Get,
@@ -27,7 +27,7 @@ impl Method {
 }
 
 /// The statuses of replies.
-#[derive(Clone, Copy, Debug, PartialEq, Eq)]
+#[derive(Clone, Copy)]
 pub enum Status {
     /// The request was accepted, or a list is given.
     Success,

@@ -14,7 +14,7 @@ use std::alloc::Global;
 use std::io::Read;
 
 /// What a request asks the desk for, and who makes it.
-#[derive(Debug, Drop, PartialEq, Eq)]
+#[derive(Drop)]
 pub struct Asking {
     /// What it asks for.
     pub asked: Asked,
@@ -24,7 +24,7 @@ pub struct Asking {
 }
 
 /// What a request wants, its form being in order.
-#[derive(Debug, Drop, PartialEq, Eq)]
+#[derive(Drop)]
 pub enum Wanted {
     /// That the desk be asked.
     Asked(Asking),

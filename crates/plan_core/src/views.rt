@@ -9,7 +9,7 @@ use plan_opening::{RowSource, occurrence_status_with};
 use status_rules::{Mark, OccStatus, Status};
 
 /// An operation of the plan, with what is read off the plan for it.
-#[derive(Clone, Copy, Debug)]
+#[derive(Clone, Copy)]
 pub struct OpView {
     pub key: OpKey,
     pub workstation: WsName,
@@ -38,7 +38,7 @@ pub struct OpView {
 }
 
 /// An occurrence of the plan, with what is read off the plan for it.
-#[derive(Clone, Copy, Debug)]
+#[derive(Clone, Copy)]
 pub struct OccView {
     pub key: OccKey,
     /// From 1 (low) to 9 (urgent).

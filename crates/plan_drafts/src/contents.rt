@@ -24,7 +24,7 @@ use std::marker::Model;
 
 /// What a loaded plan holds: its workstations and special resources, by name; its occurrences and their operations, in key
 /// order; and the pairs of predecessor and successor, by predecessor and then successor. Contracts see it as contents.
-#[derive(Debug, Drop)]
+#[derive(Drop)]
 pub struct PlanContents {
     workstations: Vec<Workstation>,
     // Each with whether it is available and how much of it there is.
@@ -400,7 +400,7 @@ impl PlanContents {
 
 /// Occurrences that are added, in key order, with their operations in key order, and the pairs added with them, by
 /// predecessor and then successor.
-#[derive(Debug, Drop)]
+#[derive(Drop)]
 pub struct ExtensionParts {
     pub occurrences: Vec<(OccKey, Occurrence)>,
     pub operations: Vec<(OpKey, OperationRecord)>,

@@ -7,7 +7,6 @@ ghost use Rattle.plan_drafts.specs.PlanGraphs.{IsGraphFor};
 
 use super::contents::{ExtensionParts, PlanContents};
 use plan_model::Graph;
-use std::fmt;
 use std::marker::Model;
 
 /// What a plan holds, and the graph of its operations and pairs.
@@ -21,13 +20,6 @@ pub struct DraftParts {
 #[derive(Drop)]
 pub struct PlanDraft {
     parts: DraftParts,
-}
-
-/// Writes what it holds.
-impl fmt::Debug for PlanDraft {
-    fn fmt<W: fmt::Write>(&self, f: &mut fmt::Formatter<W>) -> fmt::Result {
-        fmt::Debug::fmt(&self.parts.contents, f)
-    }
 }
 
 impl Model for PlanDraft {
@@ -82,7 +74,7 @@ impl PlanDraft {
 }
 
 /// The occurrence that a text denotes, with its operations and pairs. Contracts see it as what is added.
-#[derive(Debug, Drop)]
+#[derive(Drop)]
 pub struct Addition {
     parts: ExtensionParts,
 }
@@ -125,7 +117,7 @@ impl Addition {
 
 /// The occurrences that a text denotes by which a plan is extended, with their operations and pairs. Contracts see it as what
 /// is added.
-#[derive(Debug, Drop)]
+#[derive(Drop)]
 pub struct Extension {
     parts: ExtensionParts,
 }

@@ -10,14 +10,14 @@ use plan_model::{Occurrence, OperationRecord, Workstation};
 use std::alloc::{AllocError, Global};
 
 /// Where an operation's occurrence and workstation were found.
-#[derive(Clone, Copy, Debug)]
+#[derive(Clone, Copy)]
 pub struct Found {
     pub occurrence: usize,
     pub workstation: usize,
 }
 
 /// Where an operation was last found that was marked, and where the one before it was.
-#[derive(Clone, Copy, Debug)]
+#[derive(Clone, Copy)]
 pub struct Lately {
     pub last: usize,
     pub before: usize,

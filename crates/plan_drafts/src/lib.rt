@@ -24,7 +24,7 @@ pub use plan_model::{Mark, Marking, OccStatus, Occurrence, OperationRecord, Stat
 use std::cmp::Ordering;
 
 /// A row's key columns. Ordered by table, in the order of the variants, then by the columns.
-#[derive(Clone, Copy, Debug, PartialEq, Eq, PartialOrd, Ord)]
+#[derive(Clone, Copy, PartialEq, Eq, PartialOrd, Ord)]
 pub enum RowKey {
     Meta,
     Workstation(WsName),

@@ -6,7 +6,7 @@ use Rattle.plan_model.specs.Contents.{Contents, IsInPlan}
 use Rattle.plan_model.specs.Plan.{Plan}
 use Rattle.plan_records.specs.Acceptance.{minute_of}
 use Rattle.plan_records.specs.declared.Request.{Request}
-use Rattle.plan_forecast.specs.Ahead.{Ahead, HasWork, IsGoing, IsTimeAfter, LeadsOn, LeadsTo, before_it, tick}
+use Rattle.plan_forecast.specs.Ahead.{Ahead, HasWork, IsGoing, IsTimeAfter, LeadsOn, LeadsTo, before_it, counted_from, tick}
 use Rattle.plan_forecast.specs.Laws.{ForecastGoesToEnd, IsLastUpTo}
 use Rattle.plan_forecast.proofs.Turns.{later_of}
 
@@ -20,9 +20,9 @@ timed_by is_so m None new (inl h) so = (m, h.1)
 timed_by is_so m None new (inr h) so = absurd (h.0 so)
 
 all_timed : (s : Ahead) (q : Request) (t : Ahead) → LeadsTo s q t → AllTimed t
-all_timed s q t h o going = timed_by (IsGoing t.plan.contents o) t.plan.clock (s.since o) (t.since o) (h.since o) going
+all_timed s q t h o going = timed_by (IsGoing t.plan.contents o) (counted_from t.plan.contents t.plan.clock o) (s.since o) (t.since o) (h.since o) going
 
-clock_at : (s : Ahead) (q : Request) (t : Ahead) → LeadsTo s q t → t.plan.clock ≡ minute_of q.at
+pub clock_at : (s : Ahead) (q : Request) (t : Ahead) → LeadsTo s q t → t.plan.clock ≡ minute_of q.at
 clock_at s q t h = ap (λ (P : Plan). P.clock) h.step.is_after
 
 going_row : (P : Contents) (o : OpKey) → IsGoing P o → IsInPlan P o

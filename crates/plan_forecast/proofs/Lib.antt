@@ -1,4 +1,5 @@
 pub mod Accepted
+pub mod Early
 pub mod Ending
 pub mod Made
 pub mod One

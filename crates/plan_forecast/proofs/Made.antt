@@ -40,7 +40,7 @@ use Rattle.plan_records.specs.Step.{Step}
 use Rattle.plan_records.specs.declared.Request.{Request}
 use Rattle.plan_records.specs.declared.What.{What}
 use Rattle.plan_records.specs.declared.What.TheVariants as what
-use Rattle.plan_forecast.specs.Ahead.{Ahead, BeginsFirst, HasWork, IsDue, IsGoing, IsIdleUntil, IsNext, IsTimeAfter, IsWork, LeadsOn, LeadsTo, MayBegin, SomeIsDue, SomeMayBegin, before_it, tick}
+use Rattle.plan_forecast.specs.Ahead.{Ahead, BeginsFirst, HasWork, IsDue, IsGoing, IsIdleUntil, IsNext, IsTimeAfter, IsWork, LeadsOn, LeadsTo, MayBegin, SomeIsDue, SomeMayBegin, before_it, counted_from, tick}
 use Rattle.plan_forecast.specs.Laws.{SomeForecast}
 use Rattle.plan_forecast.proofs.Accepted.{tick_accepted, work_accepted, work_is_request}
 use Rattle.plan_forecast.proofs.Short.{Covers, by_keys, still_covers, step_drops, sum_less, to_come, weight_at}
@@ -197,13 +197,13 @@ leads s q sound request may =
     let after = some.1 in
     let kept = every_step_keeps_sound s.plan after q (accepted step.0) sound step.1 in
     let acyclic = kept.contents.valid.acyclic in
-    let since : OpKey → Option ℕ = λ o. time_after (s.since o) (going_told after.contents acyclic o) after.clock in
+    let since : OpKey → Option ℕ = λ o. time_after (s.since o) (going_told after.contents acyclic o) (counted_from after.contents after.clock o) in
     let done : OpKey → Option ℕ = λ o. time_after (s.done o) (status_told after.contents acyclic o status.Complete) after.clock in (
       record { plan = after; since = since; done = done },
       record {
         chosen = step.0;
         step = step.1;
-        since = λ o. is_time_after (s.since o) (going_told after.contents acyclic o) after.clock;
+        since = λ o. is_time_after (s.since o) (going_told after.contents acyclic o) (counted_from after.contents after.clock o);
         done = λ o. is_time_after (s.done o) (status_told after.contents acyclic o status.Complete) after.clock;
       },
     )

@@ -15,7 +15,7 @@ use Rattle.plan_records.specs.Answer.{accepted}
 use Rattle.plan_records.specs.declared.Request.{Request}
 use Rattle.plan_records.specs.declared.What.{What}
 use Rattle.plan_records.specs.declared.What.TheVariants as what
-use Rattle.plan_forecast.specs.Ahead.{Ahead, AreTimesAfter, BeginsFirst, HasWork, IsGoing, IsNext, IsTimeAfter, IsWork, LeadsOn, LeadsTo, before_it, tick}
+use Rattle.plan_forecast.specs.Ahead.{Ahead, AreTimesAfter, counted_from, BeginsFirst, HasWork, IsGoing, IsNext, IsTimeAfter, IsWork, LeadsOn, LeadsTo, before_it, tick}
 use Rattle.plan_forecast.specs.Laws.{OneForecast}
 
 -- ---- the first moment with work
@@ -110,16 +110,16 @@ one_time is_so m None a b (inl h) (inr g) = absurd (g.0 h.0)
 one_time is_so m None a b (inr h) (inl g) = absurd (h.0 g.0)
 one_time is_so m None a b (inr h) (inr g) = h.1 ∙ sym g.1
 
-one_timing : (is_so : OpKey → Type 0) (m : ℕ) (old a b : OpKey → Option ℕ) → AreTimesAfter is_so m old a → AreTimesAfter is_so m old b → a ≡ b
-one_timing is_so m old a b h g = λ i o. one_time (is_so o) m (old o) (a o) (b o) (h o) (g o) i
+one_timing : (is_so : OpKey → Type 0) (at : OpKey → ℕ) (old a b : OpKey → Option ℕ) → AreTimesAfter is_so at old a → AreTimesAfter is_so at old b → a ≡ b
+one_timing is_so at old a b h g = λ i o. one_time (is_so o) (at o) (old o) (a o) (b o) (h o) (g o) i
 
 one_leading : (s t u : Ahead) (q : Request) → LeadsTo s q t → LeadsTo s q u → t ≡ u
 one_leading s t u q h k =
     let plan : t.plan ≡ u.plan = (one_step s.plan t.plan u.plan q (accepted h.chosen) (accepted k.chosen) h.step k.step).1 in
-    let since : t.since ≡ u.since = one_timing (IsGoing u.plan.contents) u.plan.clock s.since t.since u.since
-    (subst (λ (P : Plan). AreTimesAfter (IsGoing P.contents) P.clock s.since t.since) plan h.since) k.since in
-    let done : t.done ≡ u.done = one_timing (λ o. HasStatus u.plan.contents o status.Complete) u.plan.clock s.done t.done u.done
-    (subst (λ (P : Plan). AreTimesAfter (λ o. HasStatus P.contents o status.Complete) P.clock s.done t.done) plan h.done) k.done in
+    let since : t.since ≡ u.since = one_timing (IsGoing u.plan.contents) (counted_from u.plan.contents u.plan.clock) s.since t.since u.since
+    (subst (λ (P : Plan). AreTimesAfter (IsGoing P.contents) (counted_from P.contents P.clock) s.since t.since) plan h.since) k.since in
+    let done : t.done ≡ u.done = one_timing (λ o. HasStatus u.plan.contents o status.Complete) (λ o. u.plan.clock) s.done t.done u.done
+    (subst (λ (P : Plan). AreTimesAfter (λ o. HasStatus P.contents o status.Complete) (λ o. P.clock) s.done t.done) plan h.done) k.done in
     λ i. record { plan = plan i; since = since i; done = done i }
 
 one_way : (until : ℕ) (qs rs : List Request) (s t u : Ahead) → LeadsOn until s qs t → LeadsOn until s rs u → (qs ≡ rs) × (t ≡ u)

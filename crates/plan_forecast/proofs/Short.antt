@@ -86,7 +86,7 @@ lighter_by M b None h = omega arith
 lighter_by M true (Some op) h = h op refl refl
 lighter_by M false (Some op) h = omega arith
 
-itself : (o : OpKey) → is_at o o ≡ true
+pub itself : (o : OpKey) → is_at o o ≡ true
 itself o = ap is_eq (tied_itself operation_cmp_total o)
 
 module _ (P : Contents) (o : OpKey) (op : Operation) (M : Mark) (is : get P.operations o ≡ Some op) (less : weight M < weight op.mark) where
@@ -109,7 +109,7 @@ module _ (P : Contents) (m : ℕ) (chosen : List OpKey) (c : IsChosen P m chosen
   abbrev ops : List OpKey
   ops = operations_of c.ready
 
-  chosen_ready : (o : OpKey) → is_among chosen o ≡ true → IsReady P o
+  pub chosen_ready : (o : OpKey) → is_among chosen o ≡ true → IsReady P o
   chosen_ready o e =
       let has = subst (λ (ks : List OpKey). Contains ks o) c.choice.in_order (member_if operation_cmp-IsAntisymmetric chosen o e) in
       let (key, there, same) = from_map (λ (k : ReadyKey). k.op) c.ready o (contains_from_filter (is_among chosen) ops o has).0 in

@@ -1,14 +1,17 @@
 -- The night ahead of a plan: requests that are accepted one after another, each at the first moment that has work.
-use Rattle.std.specs.Prelude.{◌≡◌, ◌⊎◌, ℕ, ◌+◌, ◌<◌, ◌≤◌, pos, false, List, [], ◌∷◌, ◌++◌, Contains, Option, Some, None, MatchOption}
+use Rattle.std.specs.Prelude.{◌≡◌, ◌⊎◌, ℕ, ◌+◌, ◌<◌, ◌≤◌, max, pos, false, List, [], ◌∷◌, ◌++◌, Contains, Option, Some, None, MatchOption, option_map}
+use Rattle.std.specs.FinMap.{get}
 use Rattle.std.specs.declared.cmp.Ordering.TheVariants.{Less}
 use Rattle.plan_basics.specs.Keys.{operation_cmp}
 use Rattle.plan_basics.specs.declared.Attr.{Attr}
 use Rattle.plan_basics.specs.declared.Attr.TheVariants as attribute
 use Rattle.plan_basics.specs.declared.keys.OpKey.{OpKey}
+use Rattle.status_rules.specs.declared.Mark.{Mark}
+use Rattle.status_rules.specs.declared.Mark.TheVariants as mark
 use Rattle.status_rules.specs.declared.Status.TheVariants as status
 use Rattle.ready_list.specs.declared.ReadyKey.{ReadyKey}
 use Rattle.ready_list.specs.Choice.{operations_of}
-use Rattle.plan_model.specs.Contents.{Contents, Has, HasAttribute}
+use Rattle.plan_model.specs.Contents.{Contents, Has, HasAttribute, Operation}
 use Rattle.plan_model.specs.Plan.{Plan}
 use Rattle.plan_model.specs.Ready.{IsReadyList}
 use Rattle.plan_model.specs.Starts.{IsAllowedToStart}
@@ -77,20 +80,34 @@ pub record IsNext (s : Ahead) (x : ℕ) (q : Request) : Type 0 where
   pub at : q.at ≡ pos x
   pub work : IsWork s x q.what
 
+-- the minute from which it counts that is going from m on: where only its completion is reported, so that it has no mark, not before its not-before
+abbrev pub counted_by : Mark → ℕ → ℕ → ℕ
+counted_by mark.Unmarked not_before m = max m not_before
+counted_by other not_before m = m
+
+-- so it is of an operation of the plan, if it is there
+abbrev pub counted_of : Option Operation → ℕ → ℕ
+counted_of None m = m
+counted_of (Some op) m = counted_by op.mark op.not_before m
+
+-- so it is of the operation of a plan that has this key
+abbrev pub counted_from : Contents → ℕ → OpKey → ℕ
+counted_from P m o = counted_of (get P.operations o) m
+
 -- a time that there was stays; where there was none, it is m if it is so
 abbrev pub IsTimeAfter : Type 0 → ℕ → Option ℕ → Option ℕ → Type 0
 IsTimeAfter is_so m old new = MatchOption old ((is_so × (new ≡ Some m)) ⊎ (¬ is_so × (new ≡ None))) (λ x. new ≡ Some x)
 
 -- so it is of each operation
-abbrev pub AreTimesAfter : (OpKey → Type 0) → ℕ → (OpKey → Option ℕ) → (OpKey → Option ℕ) → Type 0
-AreTimesAfter is_so m old new = (o : OpKey) → IsTimeAfter (is_so o) m (old o) (new o)
+abbrev pub AreTimesAfter : (OpKey → Type 0) → (OpKey → ℕ) → (OpKey → Option ℕ) → (OpKey → Option ℕ) → Type 0
+AreTimesAfter is_so at old new = (o : OpKey) → IsTimeAfter (is_so o) (at o) (old o) (new o)
 
--- q is accepted, and its moment is the time of what is going then, or complete, for the first time
+-- q is accepted, and by its moment is timed what is going then, or complete, for the first time
 pub record LeadsTo (s : Ahead) (q : Request) (t : Ahead) : Type 0 where
   pub chosen : List OpKey
   pub step : Step s.plan q (accepted chosen) t.plan
-  pub since : AreTimesAfter (IsGoing t.plan.contents) t.plan.clock s.since t.since
-  pub done : AreTimesAfter (λ o. HasStatus t.plan.contents o status.Complete) t.plan.clock s.done t.done
+  pub since : AreTimesAfter (IsGoing t.plan.contents) (counted_from t.plan.contents t.plan.clock) s.since t.since
+  pub done : AreTimesAfter (λ o. HasStatus t.plan.contents o status.Complete) (λ o. t.plan.clock) s.done t.done
 
 -- these are made one after another, each as soon as there is work, up to the moment `until`; no work is left then up to it
 abbrev pub LeadsOn : ℕ → Ahead → List Request → Ahead → Type 0
@@ -105,9 +122,23 @@ tick m = record { at = pos m; what = what.Tick }
 abbrev pub unknown : OpKey → Option ℕ
 unknown o = None
 
+-- what counts of what is known of it: nothing where it is named alone, since that it was named is no start; else from when it counts
+abbrev pub start_by : Mark → ℕ → Option ℕ → Option ℕ
+start_by mark.Named not_before known = None
+start_by other not_before known = option_map (counted_by other not_before) known
+
+-- so it is of an operation of the plan
+abbrev pub start_of : Option Operation → Option ℕ → Option ℕ
+start_of None known = None
+start_of (Some op) known = start_by op.mark op.not_before known
+
+-- the starts that are known in a plan: those of what runs, and of what is ready where its completion alone is reported
+abbrev pub starts_in : Contents → (OpKey → Option ℕ) → OpKey → Option ℕ
+starts_in P known o = start_of (get P.operations o) (known o)
+
 -- before the forecast's first request, which is a tick
 abbrev pub before_it : Plan → (OpKey → Option ℕ) → Ahead
-before_it P known = record { plan = P; since = known; done = unknown }
+before_it P known = record { plan = P; since = starts_in P.contents known; done = unknown }
 
 -- a forecast from the moment m up to `until`: a tick then, and what it leads on to
 abbrev pub IsForecast : Plan → (OpKey → Option ℕ) → ℕ → ℕ → List Request → Ahead → Type 0

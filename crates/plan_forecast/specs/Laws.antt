@@ -1,5 +1,5 @@
 -- What holds of every forecast.
-use Rattle.std.specs.Prelude.{◌≡◌, ◌⊎◌, ℕ, ◌+◌, ◌*◌, ◌<◌, ◌≤◌, true, List, [], ◌∷◌, map, length, All, Option, Some}
+use Rattle.std.specs.Prelude.{◌≡◌, ◌⊎◌, ℕ, ◌+◌, ◌*◌, ◌<◌, ◌≤◌, true, List, [], ◌∷◌, map, length, All, Option, Some, None}
 use Rattle.std.specs.FinMap.{get, len}
 use Rattle.plan_basics.specs.declared.keys.OpKey.{OpKey}
 use Rattle.plan_basics.specs.Intervals.{OpenInterval}
@@ -15,6 +15,7 @@ use Rattle.plan_records.specs.Laws.{BecomesStarted, WasProvidedFor}
 use Rattle.plan_records.specs.Run.{Run, plain, usable}
 use Rattle.plan_records.specs.Step.{Receipts, Step}
 use Rattle.plan_forecast.specs.Ahead.{Ahead, HasWork, IsForecast, IsGoing, SomeMayBegin}
+use Rattle.status_rules.specs.declared.Mark.TheVariants as mark
 use Rattle.plan_basics.specs.declared.Attr.TheVariants as attribute
 
 -- one forecast at most
@@ -82,3 +83,16 @@ pub record IsLastUpTo (until : ℕ) (last : Ahead) : Type 0 where
 -- a forecast goes to its end
 abbrev pub ForecastGoesToEnd : Type 0
 ForecastGoesToEnd = (P : Plan) (known : OpKey → Option ℕ) (m until : ℕ) (requests : List Request) (last : Ahead) → m ≤ until → IsForecast P known m until requests last → IsLastUpTo until last
+
+-- so it is known of a start in the plan from which a forecast is made at m: what runs, its reported start if one is known, else m; what is only named, m
+abbrev pub IsStartTaken : Contents → (OpKey → Option ℕ) → ℕ → OpKey → ℕ → Type 0
+IsStartTaken P known m o b =
+    (Has P o (λ op. op.mark ≡ mark.Running) × (known o ≡ Some b))
+    ⊎ (Has P o (λ op. op.mark ≡ mark.Running) × (known o ≡ None) × (b ≡ m))
+    ⊎ (Has P o (λ op. op.mark ≡ mark.Named) × (b ≡ m))
+
+-- nothing that is started ends in a forecast before its whole duration from that
+abbrev pub NoneEndsEarly : Type 0
+NoneEndsEarly =
+    (P : Plan) (known : OpKey → Option ℕ) (m until : ℕ) (requests : List Request) (last : Ahead) → IsForecast P known m until requests last
+    → (o : OpKey) (b e : ℕ) → IsStartTaken P.contents known m o b → last.done o ≡ Some e → Has P.contents o (λ op. b + op.duration ≤ e)

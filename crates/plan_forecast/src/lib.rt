@@ -2,8 +2,8 @@
 //! begin. This crate has its definition, and what holds of every such run.
 #![tactic(auto)]
 
-ghost use Rattle.plan_forecast.specs.Laws.{ForecastGoesToEnd, ForecastIsProvided, ForecastIsRun, ForecastIsShort, OneForecast, SomeForecast, WorkBeginsAtTurns};
-ghost use Rattle.plan_forecast.specs.Starts.{StartsStayKnown};
+ghost use Rattle.plan_forecast.specs.Laws.{ForecastGoesToEnd, ForecastIsProvided, ForecastIsRun, ForecastIsShort, NoneEndsEarly, OneForecast, SomeForecast, WorkBeginsAtTurns};
+ghost use Rattle.plan_forecast.specs.Starts.{ReportedStartIsKnown, StartsStayKnown};
 
 /// From a plan, what is known of starts, and the last moment that is looked at, there is one forecast at most.
 pub fn one_forecast()
@@ -41,4 +41,15 @@ pub fn forecast_goes_to_end()
 /// Where starts are noted at each request, those that are known are of what is going, and not after the clock.
 pub fn known_starts_stay_so()
     ensures { StartsStayKnown }
+{}
+
+/// Where something begins to run by a request, its start is the moment of that request, and not the one at which it was named.
+pub fn reported_start_is_known()
+    ensures { ReportedStartIsKnown }
+{}
+
+/// What runs ends in no forecast before its reported start and its duration; what is only named, or runs since nobody knows
+/// when, not before the forecast's moment and its duration.
+pub fn none_ends_early()
+    ensures { NoneEndsEarly }
 {}

@@ -24,7 +24,7 @@ use std::alloc::{AllocError, AllocFailed, Global};
 use std::io::Read;
 
 /// Why a text could not be read to its end.
-#[derive(Clone, Copy, Debug, PartialEq, Eq)]
+#[derive(Clone, Copy, PartialEq, Eq)]
 pub enum ImportFault {
     /// Memory lacked.
     Memory,

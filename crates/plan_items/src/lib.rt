@@ -38,7 +38,7 @@ use plan_basics::{Attr, Interval, Moment, OccKey, OpKey, ResName, WsName};
 pub use special_resources::{Mode, Need, Needs};
 
 /// What one record of a plan's text says.
-#[derive(Clone, Copy, Debug, PartialEq, Eq)]
+#[derive(Clone, Copy)]
 pub enum Item {
     /// A workstation and its reporting attribute.
     Workstation {
@@ -79,7 +79,7 @@ pub enum Item {
 }
 
 /// An operation, as its record says it.
-#[derive(Clone, Copy, Debug, PartialEq, Eq)]
+#[derive(Clone, Copy)]
 pub struct OperationItem {
     /// Its occurrence, and its number there, 1 to 255.
     pub key: OpKey,

@@ -14,14 +14,14 @@ use std::marker::Model;
 pub use workstations::Workstation;
 
 /// An occurrence of an application: its priority, from 1 (low) to 9 (urgent), and its deadline.
-#[derive(Clone, Copy, Debug, PartialEq, Eq)]
+#[derive(Clone, Copy, PartialEq, Eq)]
 pub struct Occurrence {
     pub priority: u8,
     pub deadline: Moment,
 }
 
 /// A special resource: whether it is available, and how much of it there is, 1 to 999,999.
-#[derive(Clone, Copy, Debug, PartialEq, Eq)]
+#[derive(Clone, Copy, PartialEq, Eq)]
 pub struct Stock {
     pub available: bool,
     pub quantity: u32,
@@ -29,7 +29,7 @@ pub struct Stock {
 
 /// An operation record: what was planned of an operation, and what was reported. Contracts see it as `Operation` of the
 /// definitions.
-#[derive(Clone, Copy, Debug)]
+#[derive(Clone, Copy)]
 pub struct OperationRecord {
     /// The workstation that carries it out.
     pub workstation: WsName,

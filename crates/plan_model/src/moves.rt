@@ -7,7 +7,7 @@ use crate::OperationRecord;
 use status_rules::Mark;
 
 /// What a request may change of an operation.
-#[derive(Clone, Copy, Debug, PartialEq, Eq)]
+#[derive(Clone, Copy)]
 pub struct Marking {
     /// What was reported of it.
     pub mark: Mark,

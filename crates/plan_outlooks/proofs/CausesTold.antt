@@ -3,14 +3,15 @@ use Rattle.std.proofs.Common.{◌≡◌, inl, inr, arith, ℕ, ◌<◌, Option, 
 use Rattle.plan_basics.specs.declared.keys.OpKey.{OpKey}
 use Rattle.plan_forecast.specs.Ahead.{IsGoing}
 use Rattle.plan_model.specs.Contents.{Has}
+use Rattle.plan_reasons.specs.declared.reasons.Reason.{Reason}
 use Rattle.plan_outlooks.specs.Forecasts.{Forecast}
 use Rattle.plan_outlooks.specs.PathParts.{IsBefore, IsFirstIn}
 use Rattle.plan_outlooks.specs.Paths.{CauseCase, IsAwaited, IsFreeing, OpensAt, cause_place}
 use Rattle.plan_outlooks.specs.declared.rows.Cause.{Cause}
 use Rattle.plan_outlooks.specs.declared.rows.Cause.TheVariants as cause
 
-module _ (F : Forecast) (o : OpKey) (m : ℕ) where
-  pub by_now : CauseCase F o m cause.Now → IsBefore F o m cause.Now None
+module _ (F : Forecast) (o : OpKey) (m : ℕ) (lack : Option Reason) where
+  pub by_now : CauseCase F o m cause.Now → IsBefore F o m lack cause.Now None
   by_now is = ((is, first), tt)
     where
       first : (d : Cause) → cause_place d < cause_place cause.Now → ¬ CauseCase F o m d
@@ -25,7 +26,7 @@ module _ (F : Forecast) (o : OpKey) (m : ℕ) where
     not_now (inl going) = later going
     not_now (inr at) = after at
 
-    pub by_after : (i : ℕ) → IsFirstIn F (IsAwaited F o m) (Some i) → IsBefore F o m cause.After (Some i)
+    pub by_after : (i : ℕ) → IsFirstIn F (IsAwaited F o m) (Some i) → IsBefore F o m lack cause.After (Some i)
     by_after i (p, at, is) = (((p, is.0), first), (p, is, at))
       where
         first : (d : Cause) → cause_place d < cause_place cause.After → ¬ CauseCase F o m d
@@ -33,7 +34,7 @@ module _ (F : Forecast) (o : OpKey) (m : ℕ) where
         first d less h = omega (arith, less)
 
     module _ (none : (p : OpKey) → ¬ IsAwaited F o m p) where
-      pub by_not_before : Has F.plan.contents o (λ op. op.not_before ≡ m) → IsBefore F o m cause.NotBefore None
+      pub by_not_before : Has F.plan.contents o (λ op. op.not_before ≡ m) → IsBefore F o m lack cause.NotBefore None
       by_not_before is = ((is, first), tt)
         where
           first : (d : Cause) → cause_place d < cause_place cause.NotBefore → ¬ CauseCase F o m d
@@ -42,7 +43,7 @@ module _ (F : Forecast) (o : OpKey) (m : ℕ) where
           first d less h = omega (arith, less)
 
       module _ (other : ¬ Has F.plan.contents o (λ op. op.not_before ≡ m)) where
-        pub by_opens : OpensAt F.plan.contents o m → IsBefore F o m cause.Opens None
+        pub by_opens : OpensAt F.plan.contents o m → IsBefore F o m lack cause.Opens None
         by_opens is = ((is, first), tt)
           where
             first : (d : Cause) → cause_place d < cause_place cause.Opens → ¬ CauseCase F o m d
@@ -59,6 +60,6 @@ module _ (F : Forecast) (o : OpKey) (m : ℕ) where
           before_frees cause.Opens less h = shut h
           before_frees cause.Frees less h = omega (arith, less)
 
-          pub by_frees : (found : Option ℕ) → IsFirstIn F (IsFreeing F o m) found → IsBefore F o m cause.Frees found
+          pub by_frees : (found : Option ℕ) → IsFirstIn F (IsFreeing F m lack) found → IsBefore F o m lack cause.Frees found
           by_frees None nothing = ((tt, before_frees), inr (nothing, tt))
           by_frees (Some i) (q, at, is) = ((tt, before_frees), inl (q, is, at))

@@ -10,7 +10,7 @@ use Rattle.plan_model.proofs.Entries.{entries_in_order}
 use Rattle.plan_records.specs.Rows.{IsCount}
 use Rattle.plan_reasons.specs.plan_drafts.proofs.Lists.{length_map}
 use Rattle.plan_reasons.specs.plan_drafts.proofs.RowPlaces.{row_at}
-use Rattle.plan_outlooks.specs.Forecasts.{Forecast, NeverBegins}
+use Rattle.plan_outlooks.specs.Forecasts.{Forecast, StaysOut}
 use Rattle.plan_outlooks.specs.Lent.{IsOfRow}
 use Rattle.plan_outlooks.specs.Spans.{AreOperationsOf}
 use Rattle.plan_outlooks.proofs.Listing.{AreUpTo, all_listed, none_yet, one_more}
@@ -22,7 +22,7 @@ itself o = o
 
 -- o is of the occurrence, and never begins
 abbrev pub NeverOf : Forecast → OccKey → OpKey → Type 0
-NeverOf F c o = (o.occurrence ≡ c) × NeverBegins F o
+NeverOf F c o = (o.occurrence ≡ c) × StaysOut F o
 
 -- so many of the first n operations are so
 abbrev pub CountUpTo : Forecast → OccKey → ℕ → ℕ → Type 0
@@ -50,7 +50,7 @@ module _ (F : Forecast) (c : OccKey) (first end : ℕ) (are : AreOperationsOf F.
     its : row.0.0.occurrence ≡ c
     its = (are.are n row.0.0 row.0.1 row.1).1 (low, high)
 
-    pub counted : ((o : OpKey) → IsOfRow F n o → NeverBegins F o) → CountUpTo F c (n + 1) (count + 1)
+    pub counted : ((o : OpKey) → IsOfRow F n o → StaysOut F o) → CountUpTo F c (n + 1) (count + 1)
     counted never = (
       h.0 ++ row.0.0 ∷ [],
       one_more operation_cmp_total es (entries_in_order operation_cmp F.plan.contents.operations) itself (NeverOf F c) (λ o. Unit {0}) n row.0.0 row.0.1 row.1 h.0 h.1 (Some row.0.0)
@@ -58,7 +58,7 @@ module _ (F : Forecast) (c : OccKey) (first end : ℕ) (are : AreOperationsOf F.
       length-append h.0 (row.0.0 ∷ []) ∙ ap (λ k. k + 1) h.2,
     )
 
-    pub not_counted : ((o : OpKey) → IsOfRow F n o → ¬ NeverBegins F o) → CountUpTo F c (n + 1) count
+    pub not_counted : ((o : OpKey) → IsOfRow F n o → ¬ StaysOut F o) → CountUpTo F c (n + 1) count
     not_counted begins = (
       h.0 ++ [],
       one_more operation_cmp_total es (entries_in_order operation_cmp F.plan.contents.operations) itself (NeverOf F c) (λ o. Unit {0}) n row.0.0 row.0.1 row.1 h.0 h.1 None
@@ -71,7 +71,7 @@ module _ (F : Forecast) (c : OccKey) (first end : ℕ) (are : AreOperationsOf F.
       let a =
       all_listed operation_cmp_total es (entries_in_order operation_cmp F.plan.contents.operations) itself (NeverOf F c) (λ o. Unit {0}) n
       (λ o so.
-      let op = so.1.0.0 in
+      let op = so.1.0.0.0 in
       let r = row_of F.plan.contents o op.0 op.1 in
       let at = (are.are r.0 o op.0 r.1).0 so.0 in
       (r.0, op.0, (let up = at.1 in omega (arith, up, past)), r.1))

@@ -1,22 +1,21 @@
 -- A path goes back from member to member, and ends: each begins earlier, or as early and before by the plan's pairs.
-use Rattle.std.proofs.Common.{◌≡◌, ◌⊎◌, inl, inr, refl, sym, ◌∙◌, ap, subst, arith, ℕ, ◌+◌, ◌*◌, ◌<◌, ◌≤◌, List, [], ◌∷◌, ◌++◌, append_assoc, length, sum_by, Option, Some, None}
+use Rattle.std.proofs.Common.{◌≡◌, ◌⊎◌, inl, inr, refl, sym, ◌∙◌, subst, arith, ℕ, ◌+◌, ◌*◌, ◌<◌, ◌≤◌, List, [], ◌∷◌, ◌++◌, append_assoc, length, sum_by, Option, Some, None}
 use Rattle.std.specs.FinMap.{entries, keys}
-use Rattle.std.specs.Option.{option_or}
 use Rattle.std.proofs.lemmas.Bool.{cases_lt, cases_order}
 use Rattle.std.proofs.lemmas.List.Sums.{sum_by-le}
 use Rattle.std.proofs.lemmas.Map.Entries.{length-keys_of}
 use Rattle.plan_basics.specs.Keys.{operation_cmp-IsAntisymmetric}
+use Rattle.plan_basics.specs.declared.keys.OccKey.{OccKey}
 use Rattle.plan_basics.specs.declared.keys.OpKey.{OpKey}
 use Rattle.plan_basics.proofs.Members.{all_by_members}
-use Rattle.plan_forecast.specs.Ahead.{IsGoing}
-use Rattle.plan_forecast.proofs.Made.{going_told}
 use Rattle.plan_forecast.proofs.Short.{sum_less}
 use Rattle.plan_forecast.specs.plan_laws.proofs.Ordered.{pairs_have_rank}
 use Rattle.plan_model.proofs.Members.{in_keys}
 use Rattle.plan_model.specs.operation_graph.proofs.Telling.{Told}
 use Rattle.plan_model.specs.Contents.{IsInPlan, Precedes}
 use Rattle.plan_model.specs.Valid.{IsAcyclic}
-use Rattle.plan_outlooks.specs.Forecasts.{Forecast, minute_or}
+use Rattle.plan_reasons.specs.declared.reasons.Reason.{Reason}
+use Rattle.plan_outlooks.specs.Forecasts.{Forecast, begin_minute}
 use Rattle.plan_outlooks.specs.Lent.{IsOfRow}
 use Rattle.plan_outlooks.specs.PathParts.{IsBefore}
 use Rattle.plan_outlooks.specs.Paths.{BeginsFrom, EndsAt, GoesBack, IsAwaited, IsFreeing, IsMember, IsPathTo}
@@ -27,23 +26,9 @@ use Rattle.plan_outlooks.proofs.FirstOnes.{one_key}
 
 -- ---- when operations begin
 
-begin_by : (F : Forecast) (o : OpKey) → Told (IsGoing F.plan.contents o) → ℕ
-begin_by F o (inl g) = minute_or F.from (F.known o)
-begin_by F o (inr n) = minute_or F.from (option_or (F.last.since o) (F.last.done o))
-
-begins_by : (F : Forecast) (o : OpKey) (t : Told (IsGoing F.plan.contents o)) (b : ℕ) → BeginsFrom F o b → b ≡ begin_by F o t
-unfolding begin_by
-begins_by F o (inl g) b (begun, inl is, at) = at ∙ ap (minute_or F.from) is.1
-begins_by F o (inl g) b (begun, inr is, at) = absurd (is.0 g)
-begins_by F o (inr n) b (begun, inl is, at) = absurd (n is.0)
-begins_by F o (inr n) b (begun, inr is, at) = at ∙ ap (minute_or F.from) is.1
-
 -- it begins at one minute
 pub one_beginning : (F : Forecast) (o : OpKey) (a b : ℕ) → BeginsFrom F o a → BeginsFrom F o b → a ≡ b
-one_beginning F o a b (x, inl is, at) (y, inl was, there) = at ∙ ap (minute_or F.from) (is.1 ∙ sym was.1) ∙ sym there
-one_beginning F o a b (x, inl is, at) (y, inr was, there) = absurd (was.0 is.0)
-one_beginning F o a b (x, inr is, at) (y, inl was, there) = absurd (is.0 was.0)
-one_beginning F o a b (x, inr is, at) (y, inr was, there) = at ∙ ap (minute_or F.from) (is.1 ∙ sym was.1) ∙ sym there
+one_beginning F o a b is was = is ∙ sym was
 
 one_if : {A : Type 0} → Told A → ℕ
 one_if (inl a) = 1
@@ -73,11 +58,11 @@ none_is (inr m) never = omega arith
 
 module _ (F : Forecast) (acyclic : IsAcyclic F.plan.contents.pairs) where
   pub begin_of : OpKey → ℕ
-  begin_of o = begin_by F o (going_told F.plan.contents acyclic o)
+  begin_of o = begin_minute F o
 
   begins_is : (o : OpKey) (b : ℕ) → BeginsFrom F o b → b ≡ begin_of o
   unfolding begin_of
-  begins_is o b at = begins_by F o (going_told F.plan.contents acyclic o) b at
+  begins_is o b at = at
 
   pub rank : OpKey → ℕ
   rank = (pairs_have_rank F.plan.contents.pairs acyclic).0
@@ -143,8 +128,8 @@ module _ (F : Forecast) (acyclic : IsAcyclic F.plan.contents.pairs) where
         | inr more ↦ inr ((let same : begin_of p ≡ begin_of o = omega (arith, le, more, mine, its) in same), rank_rises p o is.0)
       ]
 
-  freeing_below : (o : OpKey) (m : ℕ) → BeginsFrom F o m → (q : OpKey) → IsFreeing F o m q → IsBelow q o
-  freeing_below o m at q is =
+  freeing_below : (o : OpKey) (m : ℕ) (lack : Option Reason) → BeginsFrom F o m → (q : OpKey) → IsFreeing F m lack q → IsBelow q o
+  freeing_below o m lack at q is =
       let mine = begins_is o m at in
       let (b, from, less) = is.1 in
       let its = begins_is q b from in
@@ -152,8 +137,8 @@ module _ (F : Forecast) (acyclic : IsAcyclic F.plan.contents.pairs) where
 
 -- ---- how a path goes on
 
-module _ (F : Forecast) (o : OpKey) (m : ℕ) where
-  pub goes_with : (c : Cause) (to other : OpKey → Type 0) (none nowhere : Type 0) → ((p : OpKey) → to p → other p) → (none → nowhere) → GoesBack F o m c to none → GoesBack F o m c other nowhere
+module _ (F : Forecast) (o : OpKey) (m : ℕ) (lack : Option Reason) where
+  pub goes_with : (c : Cause) (to other : OpKey → Type 0) (none nowhere : Type 0) → ((p : OpKey) → to p → other p) → (none → nowhere) → GoesBack F o m lack c to none → GoesBack F o m lack c other nowhere
   goes_with cause.Now to other none nowhere f g h = g h
   goes_with cause.After to other none nowhere f g h = (h.0, h.1, f h.0 h.2)
   goes_with cause.NotBefore to other none nowhere f g h = g h
@@ -162,12 +147,12 @@ module _ (F : Forecast) (o : OpKey) (m : ℕ) where
   goes_with cause.Frees to other none nowhere f g (inr h) = inr (h.0, g h.1)
 
   -- where it goes on it does so with what ends then and is below o
-  pub goes_to : (c : Cause) (to : OpKey → Type 0) → BeginsFrom F o m → GoesBack F o m c to ⊥ → (p : OpKey) × to p × EndsAt F m p × ((acyclic : IsAcyclic F.plan.contents.pairs) → IsBelow F acyclic p o)
+  pub goes_to : (c : Cause) (to : OpKey → Type 0) → BeginsFrom F o m → GoesBack F o m lack c to ⊥ → (p : OpKey) × to p × EndsAt F m p × ((acyclic : IsAcyclic F.plan.contents.pairs) → IsBelow F acyclic p o)
   goes_to cause.Now to at h = absurd h
   goes_to cause.After to at h = (h.0, h.2, h.1.0.1, λ acyclic. awaited_below F acyclic o m at h.0 h.1.0)
   goes_to cause.NotBefore to at h = absurd h
   goes_to cause.Opens to at h = absurd h
-  goes_to cause.Frees to at (inl h) = (h.0, h.2, h.1.0.0, λ acyclic. freeing_below F acyclic o m at h.0 h.1.0)
+  goes_to cause.Frees to at (inl h) = (h.0, h.2, h.1.0.0, λ acyclic. freeing_below F acyclic o m lack at h.0 h.1.0)
   goes_to cause.Frees to at (inr h) = absurd h.1
 
 -- ---- member by member
@@ -177,33 +162,33 @@ abbrev IsAll : List PathMember → Type 0
 IsAll earlier = earlier ≡ []
 
 -- after n members: all of the path to o; or, where it goes on, what is so far, before which the path to the operation at the next index stands, that ends then; fewer operations are below that one than are left
-abbrev pub PathUpTo : Forecast → OpKey → ℕ → List PathMember → Option ℕ → ℕ → Type 0
-PathUpTo F o n path None until = IsPathTo F o path
-PathUpTo F o n path (Some i) until =
-    (p : OpKey) × IsOfRow F i p × EndsAt F until p × ((rest : List PathMember) → IsPathTo F p rest → IsPathTo F o (path ++ rest))
+abbrev pub PathUpTo : Forecast → OccKey → OpKey → ℕ → List PathMember → Option ℕ → ℕ → Type 0
+PathUpTo F late o n path None until = IsPathTo F late o path
+PathUpTo F late o n path (Some i) until =
+    (p : OpKey) × IsOfRow F i p × EndsAt F until p × ((rest : List PathMember) → IsPathTo F late p rest → IsPathTo F late o (path ++ rest))
     × ((acyclic : IsAcyclic F.plan.contents.pairs) → how_many F acyclic p + n < length (entries F.plan.contents.operations))
 
-pub path_begins : (F : Forecast) (i : ℕ) (o : OpKey) (m : ℕ) → IsOfRow F i o → EndsAt F m o → PathUpTo F o 0 [] (Some i) m
-path_begins F i o m at ends = (o, at, ends, λ rest is. is, λ acyclic. let few = not_all F acyclic o ends.0 in omega (arith, few))
+pub path_begins : (F : Forecast) (late : OccKey) (i : ℕ) (o : OpKey) (m : ℕ) → IsOfRow F i o → EndsAt F m o → PathUpTo F late o 0 [] (Some i) m
+path_begins F late i o m at ends = (o, at, ends, λ rest is. is, λ acyclic. let few = not_all F acyclic o ends.0 in omega (arith, few))
 
-module _ (F : Forecast) (o : OpKey) (n : ℕ) (path : List PathMember) (i until : ℕ) (so_far : PathUpTo F o n path (Some i) until) (m : PathMember) (is : IsMember F so_far.0 m) where
+module _ (F : Forecast) (late : OccKey) (o : OpKey) (n : ℕ) (path : List PathMember) (i until : ℕ) (so_far : PathUpTo F late o n path (Some i) until) (m : PathMember) (is : IsMember F late so_far.0 m) where
   abbrev p : OpKey
   p = so_far.0
 
   begins : BeginsFrom F p m.begin
-  begins = (is.begun, is.beginning, is.begin.0)
+  begins = is.begin
 
-  pub path_more : (next : Option ℕ) → IsBefore F p m.begin m.cause next → PathUpTo F o (n + 1) (path ++ m ∷ []) next m.begin
+  pub path_more : (next : Option ℕ) → IsBefore F p m.begin m.lack m.cause next → PathUpTo F late o (n + 1) (path ++ m ∷ []) next m.begin
   path_more None before =
-      so_far.3 (m ∷ []) (is, goes_with F p m.begin m.cause (λ q. ⊥) (λ q. IsPathTo F q []) (Unit {0}) (IsAll []) (λ q nothing. absurd nothing) (λ _. refl) before.1)
+      so_far.3 (m ∷ []) (is, goes_with F p m.begin m.lack m.cause (λ q. ⊥) (λ q. IsPathTo F late q []) (Unit {0}) (IsAll []) (λ q nothing. absurd nothing) (λ _. refl) before.1)
   path_more (Some j) before =
-      let to = goes_to F p m.begin m.cause (λ q. IsOfRow F j q) begins before.1 in
+      let to = goes_to F p m.begin m.lack m.cause (λ q. IsOfRow F j q) begins before.1 in
       let q = to.0 in (
         q,
         to.1,
         to.2,
-        λ rest back. subst (IsPathTo F o) (sym (append_assoc path (m ∷ []) rest))
-            (so_far.3 (m ∷ rest) (is, goes_with F p m.begin m.cause (λ z. IsOfRow F j z) (λ z. IsPathTo F z rest) ⊥ (IsAll rest) (λ z there. subst (λ k. IsPathTo F k rest) (one_key F j q z to.1 there) back) (λ nothing. absurd nothing) before.1)),
+        λ rest back. subst (IsPathTo F late o) (sym (append_assoc path (m ∷ []) rest))
+            (so_far.3 (m ∷ rest) (is, goes_with F p m.begin m.lack m.cause (λ z. IsOfRow F j z) (λ z. IsPathTo F late z rest) ⊥ (IsAll rest) (λ z there. subst (λ k. IsPathTo F late k rest) (one_key F j q z to.1 there) back) (λ nothing. absurd nothing) before.1)),
         λ acyclic.
             let less = fewer F acyclic q p to.2.0 (to.3 acyclic) in
             let few = so_far.4 acyclic in
@@ -211,6 +196,6 @@ module _ (F : Forecast) (o : OpKey) (n : ℕ) (path : List PathMember) (i until 
       )
 
 -- it ends before there are more members than operations
-pub path_ends : (F : Forecast) (o : OpKey) (n : ℕ) (path : List PathMember) (next : Option ℕ) (until : ℕ) → IsAcyclic F.plan.contents.pairs → length (entries F.plan.contents.operations) ≤ n → PathUpTo F o n path next until → IsPathTo F o path
-path_ends F o n path None until acyclic all h = h
-path_ends F o n path (Some i) until acyclic all h = let few = h.4 acyclic in absurd (omega (arith, all, few))
+pub path_ends : (F : Forecast) (late : OccKey) (o : OpKey) (n : ℕ) (path : List PathMember) (next : Option ℕ) (until : ℕ) → IsAcyclic F.plan.contents.pairs → length (entries F.plan.contents.operations) ≤ n → PathUpTo F late o n path next until → IsPathTo F late o path
+path_ends F late o n path None until acyclic all h = h
+path_ends F late o n path (Some i) until acyclic all h = let few = h.4 acyclic in absurd (omega (arith, all, few))

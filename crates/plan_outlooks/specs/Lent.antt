@@ -9,13 +9,15 @@ use Rattle.plan_model.specs.Contents.{Operation}
 use Rattle.plan_model.specs.Status.{HasStatus}
 use Rattle.status_rules.specs.declared.Status.TheVariants.{Complete}
 use Rattle.plan_outlooks.specs.Forecasts.{Forecast, told_to}
+use Rattle.plan_outlooks.specs.Lacks.{AreLacks}
+use Rattle.plan_outlooks.specs.Overruns.{AreTaken}
 use Rattle.plan_outlooks.specs.declared.refs.ForecastRefs.{ForecastRefs}
 
 -- o is the operation whose row is at this index
 abbrev pub IsOfRow : Forecast → ℕ → OpKey → Type 0
 IsOfRow F i o = (op : Operation) × (slice_get (entries F.plan.contents.operations) i ≡ Some (o, op))
 
--- its plans, at whose indices the same operations stand; of each the times in the end, known of what is complete, none of them before it, and its own minute of what was complete already; what is known of starts; its span
+-- its plans, at whose indices the same operations stand; of each the times in the end, known of what is complete, none of them before it, and its own minute of what was complete already; what is known of starts, of each whether its times are only taken, and what it lacks as it begins; its span
 pub record IsLent (F : Forecast) (x : ForecastRefs) : Type 0 where
   pub plan : x.plan.now ≡ F.plan.contents
   pub last : x.last.now ≡ F.last.plan.contents
@@ -30,3 +32,7 @@ pub record IsLent (F : Forecast) (x : ForecastRefs) : Type 0 where
   pub from : x.from ≡ F.from
   pub to : x.to ≡ told_to F
   pub known : F.known ≡ since_in x.known.now
+  pub taken_size : length x.taken.now ≡ length (entries F.plan.contents.operations)
+  pub taken : AreTaken F.plan.contents F.known F.from x.taken.now
+  pub lacks_size : length x.lacks.now ≡ length (entries F.plan.contents.operations)
+  pub lacks : AreLacks F x.lacks.now

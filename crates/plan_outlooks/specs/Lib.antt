@@ -4,11 +4,16 @@ pub use Rattle.plan_forecast
 pub use Rattle.plan_records
 pub mod Forecasts
 pub mod Rows
+pub mod Overruns
+pub mod Lacks
 pub mod Operations
 pub mod Occurrences
 pub mod Standstills
 pub mod Paths
+pub mod Longest
 pub mod Outlooks
 pub mod Lent
 pub mod PathParts
 pub mod Spans
+pub mod Replays
+pub mod Laws

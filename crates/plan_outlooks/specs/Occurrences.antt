@@ -9,7 +9,7 @@ use Rattle.plan_model.specs.Status.{EachOperation, HasOccurrenceStatus}
 use Rattle.plan_records.specs.Rows.{IsCount}
 use Rattle.status_rules.specs.declared.OccStatus.TheVariants as occurrence
 use Rattle.status_rules.specs.declared.Status.TheVariants.{Complete}
-use Rattle.plan_outlooks.specs.Forecasts.{Forecast, IsLateBy, NeverBegins}
+use Rattle.plan_outlooks.specs.Forecasts.{Forecast, IsLateBy, StaysOut, minute_or, told_to}
 use Rattle.plan_outlooks.specs.Rows.{AreRowsOf}
 use Rattle.plan_outlooks.specs.declared.rows.OccurrenceOutlook.{OccurrenceOutlook}
 
@@ -28,13 +28,13 @@ abbrev pub IsEnd : Forecast → OccKey → Option ℕ → Type 0
 IsEnd F c (Some m) = IsLastEnd F c m
 IsEnd F c None = ¬ EachOperation F.last.plan.contents c Complete
 
--- the occurrence's own columns; its status in the plan as it stands; when it ends, and by how much that is after its deadline; and how many of its operations never begin
+-- the occurrence's own columns; its status in the plan as it stands; when it ends; by how much that is after its deadline, or where it doesn't end, the last minute that is told of, so that it is late by that at least; and how many of its operations never begin, those apart that have begun and failed
 pub record IsOccurrenceOutlook (F : Forecast) (r : OccurrenceOutlook) : Type 0 where
   pub is_in_plan : get F.plan.contents.occurrences r.key ≡ Some (record { priority = r.priority; deadline = r.deadline })
   pub status : HasOccurrenceStatus F.plan.contents r.key r.status
   pub ending : IsEnd F r.key r.end
-  pub late : IsLateBy r.end (pos r.deadline) r.late
-  pub never : IsCount (λ o. (o.occurrence ≡ r.key) × NeverBegins F o) r.never
+  pub late : IsLateBy (Some (minute_or (told_to F) r.end)) (pos r.deadline) r.late
+  pub never : IsCount (λ o. (o.occurrence ≡ r.key) × StaysOut F o) r.never
 
 -- all occurrences that are neither complete nor deleted, by key
 abbrev pub AreOccurrenceOutlooks : Forecast → List OccurrenceOutlook → Type 0

@@ -1,5 +1,5 @@
 -- What a forecast tells of the operations that it begins, or that are going already.
-use Rattle.std.specs.Prelude.{◌≡◌, ℕ, List, Option, Some, is_some, Decides}
+use Rattle.std.specs.Prelude.{◌≡◌, ℕ, cond, not, List, Some, None, Decides}
 use Rattle.std.specs.FinMap.{get}
 use Rattle.std.specs.Ordering.{nat_cmp, ordering_then}
 use Rattle.std.specs.declared.cmp.Ordering.{Ordering}
@@ -9,23 +9,28 @@ use Rattle.plan_forecast.specs.Ahead.{IsGoing}
 use Rattle.plan_model.specs.Contents.{HasAttribute, Operation}
 use Rattle.plan_model.specs.Starts.{IsLatestStart}
 use Rattle.plan_model.specs.Status.{HasStatus}
-use Rattle.plan_outlooks.specs.Forecasts.{Begins, Forecast, IsBeginning, IsLateBy, minute_or}
+use Rattle.plan_reasons.specs.Reasons.{beginning_by}
+use Rattle.plan_outlooks.specs.Forecasts.{Begins, Forecast, IsLateBy, IsSinceUnknown, begin_minute, if_known}
+use Rattle.plan_outlooks.specs.Overruns.{IsOverBy, IsTaken, planned_end}
 use Rattle.plan_outlooks.specs.Rows.{AreRowsOf}
 use Rattle.plan_outlooks.specs.declared.rows.OperationOutlook.{OperationOutlook}
 
--- the operation's own columns; its status, and whether it is going, in the plan as it stands; when it begins, the forecast's minute where that isn't known, and ends; its latest start, and by how much it begins after that
+-- the operation's own columns; its status, and whether it is going, in the plan as it stands; when it begins, and whether that is known; when it ends; its latest start, and by how much it begins after that, where that is known; what its mark tells of its start; of what is going since when that is so; by how much it runs over its time; and whether its times are only taken, since it does, or waits for what does
 pub record IsOperationOutlook (F : Forecast) (r : OperationOutlook) : Type 0 where
   pub op : Operation
   pub is_in_plan : get F.plan.contents.operations r.key ≡ Some op
   pub workstation : (r.workstation ≡ op.workstation) × HasAttribute F.plan.contents op.workstation r.attribute
   pub status : HasStatus F.plan.contents r.key r.status
   pub going : Decides r.is_going (IsGoing F.plan.contents r.key)
-  pub begun : Option ℕ
-  pub beginning : IsBeginning F r.key begun
-  pub begin : (r.begin ≡ minute_or F.from begun) × (r.is_known ≡ is_some begun)
+  pub begin : r.begin ≡ begin_minute F r.key
+  pub known : Decides (not r.is_known) (IsSinceUnknown F r.key)
   pub ending : r.end ≡ F.last.done r.key
   pub latest : IsLatestStart F.plan.contents r.key r.latest
-  pub late : IsLateBy begun r.latest r.late
+  pub late : IsLateBy (if_known r.is_known r.begin) r.latest r.late
+  pub beginning : r.beginning ≡ beginning_by op.mark
+  pub since : r.since ≡ cond r.is_going (F.known r.key) None
+  pub over : IsOverBy (planned_end op r.since) F.from r.over
+  pub taken : Decides r.is_taken (IsTaken F.plan.contents F.known F.from r.key)
 
 -- what its place goes by: when it begins, and then the key
 abbrev pub operation_place : OperationOutlook → ℕ × OpKey

@@ -3,6 +3,7 @@ use Rattle.std.specs.Prelude.{◌≡◌, ℕ, Option, is_some}
 use Rattle.plan_basics.specs.declared.keys.OpKey.{OpKey}
 use Rattle.plan_model.specs.Plan.{Plan}
 use Rattle.plan_outlooks.specs.Forecasts.{Forecast, IsForecastOf, told_to}
+use Rattle.plan_outlooks.specs.Longest.{AreNamed, AreOver}
 use Rattle.plan_outlooks.specs.Occurrences.{AreOccurrenceOutlooks}
 use Rattle.plan_outlooks.specs.Operations.{AreOperationOutlooks}
 use Rattle.plan_outlooks.specs.Paths.{AreLatePaths}
@@ -16,6 +17,8 @@ pub record AreOutlooks (F : Forecast) (x : Outlooks) : Type 0 where
   pub cut : x.is_cut ≡ is_some F.until
   pub occurrences : AreOccurrenceOutlooks F x.occurrences.items
   pub operations : AreOperationOutlooks F x.operations.items
+  pub named : AreNamed x.operations.items x.named.items
+  pub over : AreOver x.operations.items x.over.items
   pub paths : AreLatePaths F x.occurrences.items x.paths.items
   pub standstills : AreStandstills F x.standstills.items
 

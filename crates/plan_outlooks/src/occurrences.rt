@@ -8,14 +8,14 @@ ghost use Rattle.plan_basics.specs.declared.keys.OccKey.{OccKey as OccKeyValue};
 ghost use Rattle.plan_records.specs.Rows.{IsCount};
 ghost use Rattle.status_rules.specs.declared.OccStatus.TheVariants as occurrence;
 ghost use Rattle.status_rules.specs.declared.Status.TheVariants.{Complete};
-ghost use Rattle.plan_outlooks.specs.Forecasts.{Forecast, NeverBegins};
+ghost use Rattle.plan_outlooks.specs.Forecasts.{Forecast, StaysOut};
 ghost use Rattle.plan_outlooks.specs.Lent.{IsLent};
 ghost use Rattle.plan_outlooks.specs.Occurrences.{AreOccurrenceOutlooks, IsEnd, IsOccurrenceOutlook, IsOutstandingOccurrence};
 ghost use Rattle.plan_outlooks.specs.Spans.{AreBefore, AreOperationsOf, AreThrough, HaveStatus, IsLatest, IsLatestWith};
 
 use super::lists::note;
 use super::refs::{
-    ForecastRefs, is_complete, late_by, later, never_begins, read_for_proof, time_at,
+    ForecastRefs, is_complete, late_by, later, moment_or, read_for_proof, stays_out, time_at,
 };
 use super::rows::OccurrenceOutlook;
 use plan_basics::{Moment, OccKey, OpKey};
@@ -95,14 +95,15 @@ fn ending_of(refs: &ForecastRefs<'_>, first: usize, end: usize) -> Option<Moment
     }
 }
 
-// How many of the operations of an occurrence the forecast doesn't begin, which are at the indices from one up to another.
+// How many of the operations of an occurrence the forecast doesn't begin, and haven't begun and failed before, which are at the
+// indices from one up to another.
 fn never_of(refs: &ForecastRefs<'_>, first: usize, end: usize) -> usize
     requires { (F : Forecast) × (c : OccKeyValue) × IsLent F refs.now × AreOperationsOf F.plan.contents c first end }
-    ensures { (F : Forecast) (c : OccKeyValue) → IsLent F refs.now → AreOperationsOf F.plan.contents c first end → IsCount (λ o. (o.occurrence ≡ c) × NeverBegins F o) result }
+    ensures { (F : Forecast) (c : OccKeyValue) → IsLent F refs.now → AreOperationsOf F.plan.contents c first end → IsCount (λ o. (o.occurrence ≡ c) × StaysOut F o) result }
 {
     let mut count = 0;
     for place in first..end {
-        if never_begins(refs, place) {
+        if stays_out(refs, place) {
             count += 1;
         }
     }
@@ -134,7 +135,8 @@ fn occurrence_outlook(
     let first = count_before(rows, key);
     let end = count_through(rows, key);
     let ending = ending_of(refs, first, end);
-    let late = late_by(&ending, occurrence.deadline.minute());
+    let told = moment_or(refs.to, &ending);
+    let late = late_by(&Some(told), occurrence.deadline.minute());
     Some(OccurrenceOutlook {
         key: *key,
         priority: occurrence.priority,

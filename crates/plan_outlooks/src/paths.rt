@@ -1,26 +1,28 @@
 // The paths by which occurrences will be late: what each operation begins after.
 ghost use Rattle.std.specs.Prelude.{◌≡◌, ◌⊎◌, ℕ, ◌<◌, ◌≤◌, Some, length, Decides, IfOk, MatchOption};
 ghost use Rattle.std.specs.FinMap.{entries, get};
-ghost use Rattle.plan_basics.specs.Keys.{Name};
 ghost use Rattle.plan_basics.specs.declared.keys.OpKey.{OpKey as OpKeyValue};
 ghost use Rattle.plan_forecast.specs.Ahead.{IsGoing};
 ghost use Rattle.plan_model.specs.Holdings.{takes};
 ghost use Rattle.plan_model.specs.special_resources.specs.Holders.{Usage};
-ghost use Rattle.plan_reasons.specs.Reasons.{BeginsAt};
-ghost use Rattle.plan_outlooks.specs.Forecasts.{Forecast};
+ghost use Rattle.plan_reasons.specs.Reasons.{BeginsAt, amount_needed};
+ghost use Rattle.plan_reasons.specs.declared.reasons.Reason.TheVariants as reason;
+ghost use Rattle.plan_outlooks.specs.Forecasts.{Forecast, begin_minute};
 ghost use Rattle.plan_outlooks.specs.Lent.{IsLent, IsOfRow};
 ghost use Rattle.plan_outlooks.specs.Occurrences.{AreOccurrenceOutlooks, IsOccurrenceOutlook, IsOutstandingOccurrence};
 ghost use Rattle.plan_outlooks.specs.PathParts.{IsBefore, IsFirstIn};
-ghost use Rattle.plan_outlooks.specs.Paths.{AreLatePaths, BeginsFrom, EndsAt, IsAwaited, IsFreeing, IsMember, IsPathTo, OpensAt, Shares, StandsBefore};
+ghost use Rattle.plan_outlooks.specs.Paths.{AreLatePaths, BeginsFrom, EndsAt, IsAwaited, IsFreeing, IsMember, IsPathTo, OpensAt, StandsBefore};
+ghost use Rattle.plan_outlooks.specs.Lacks.{HasOf, IsLack};
 
 use super::lists::note_all;
 use super::refs::{
-    ForecastRefs, beginning_of, is_complete, is_going_at, key_at, moment_or, read_for_proof,
-    time_at,
+    ForecastRefs, beginning_of, is_at, is_complete, is_going_at, is_since_unknown, key_at,
+    read_for_proof, time_at,
 };
 use super::rows::{Cause, OccurrenceOutlook, PathMember};
-use plan_basics::{Attr, Moment, OccKey, ResName};
+use plan_basics::{Attr, Moment, OccKey, ResName, WsName};
 use plan_model::OperationRecord;
+use plan_reasons::{Obstacle, Reason, Scarcity, Shortage, Supply};
 use std::alloc::{AllocError, Global};
 use workstations::Workstation;
 
@@ -29,16 +31,6 @@ use workstations::Workstation;
 struct Preceding {
     cause: Cause,
     place: Option<usize>,
-}
-
-// Whether a time is this moment.
-fn is_at(time: Option<Moment>, moment: Moment) -> bool
-    ensures { Decides result (time ≡ Some moment) }
-{
-    match time {
-        Some(found) => found == moment,
-        None => false,
-    }
 }
 
 // Whether a moment isn't after another one.
@@ -64,13 +56,12 @@ fn ends_at(refs: &ForecastRefs<'_>, place: usize, moment: Moment) -> bool
     is_at(time_at(refs.done, place), moment) && !is_complete(refs.plan.status_at(place))
 }
 
-// When the operation at an index begins: the forecast's moment where it is going already and it isn't known since when.
+// When the operation at an index begins.
 fn begin_at(refs: &ForecastRefs<'_>, place: usize) -> Moment
     requires { (F : Forecast) × IsLent F refs.now × (place < length (entries F.plan.contents.operations)) }
     ensures { (F : Forecast) (o : OpKeyValue) → IsLent F refs.now → IsOfRow F place o → BeginsFrom F o result }
 {
-    let is_going = is_going_at(refs, place);
-    moment_or(refs.from, &beginning_of(refs, place, is_going))
+    beginning_of(refs, place)
 }
 
 // Whether the operation at an index begins by a moment and ends then.
@@ -148,31 +139,80 @@ fn needs_resource(operation: &OperationRecord, name: &ResName) -> bool
     false
 }
 
-// Whether two operations need a special resource of one name.
-fn share_resource(a: &OperationRecord, b: &OperationRecord) -> bool
-    ensures { Decides result ((r : Name) × (x : Usage) × (y : Usage) × (get a.now.needs r ≡ Some x) × (get b.now.needs r ≡ Some y)) }
+// How much of a supply an operation takes.
+fn amount_needed(supply: Supply, operation: &OperationRecord) -> u32
+    ensures { result ≡ amount_needed supply operation.now }
 {
-    for need in a.needs.as_slice() {
-        if needs_resource(b, &need.name) {
-            return true;
-        }
+    match supply {
+        Supply::Servers => 1,
+        Supply::R1 => u32::from(operation.r1),
+        Supply::R2 => u32::from(operation.r2),
     }
-    false
 }
 
-// Whether one operation frees what another one needs, where it ends: a server, R1 or R2 of its workstation, or a special resource.
-fn frees(refs: &ForecastRefs<'_>, other: usize, place: usize) -> bool
-    requires { (F : Forecast) × IsLent F refs.now × (place < length (entries F.plan.contents.operations)) × (other < length (entries F.plan.contents.operations)) }
-    ensures { (F : Forecast) (o : OpKeyValue) (q : OpKeyValue) → IsLent F refs.now → IsOfRow F place o → IsOfRow F other q → Decides result (Shares F.plan.contents o q) }
+// Whether two workstations are the same.
+fn is_workstation(a: &WsName, b: &WsName) -> bool
+    ensures { Decides result (a.now ≡ b.now) }
 {
-    let ended = refs.plan.reported_at(other);
-    let begun = refs.plan.reported_at(place);
-    if !takes(ended.attribute) {
+    *a == *b
+}
+
+// Whether an operation has some of what lacks on a workstation.
+fn is_of_supply(operation: &OperationRecord, shortage: &Shortage) -> bool
+    ensures { Decides result ((operation.now.workstation ≡ shortage.now.workstation) × (0 < amount_needed shortage.now.supply operation.now)) }
+{
+    if !is_workstation(&operation.workstation, &shortage.workstation) {
         return false;
     }
-    let freed = ended.operation;
-    let taken = begun.operation;
-    freed.workstation == taken.workstation || share_resource(freed, taken)
+    0 < amount_needed(shortage.supply, operation)
+}
+
+// Whether the operation at an index has some of what lacks on a workstation.
+fn has_of_supply(refs: &ForecastRefs<'_>, place: usize, shortage: &Shortage) -> bool
+    requires { (F : Forecast) × IsLent F refs.now × (place < length (entries F.plan.contents.operations)) }
+    ensures { (F : Forecast) (q : OpKeyValue) → IsLent F refs.now → IsOfRow F place q → Decides result (HasOf F.plan.contents q (Some (reason.Lacks shortage.now))) }
+{
+    let reported = refs.plan.reported_at(place);
+    if !takes(reported.attribute) {
+        return false;
+    }
+    is_of_supply(reported.operation, shortage)
+}
+
+// Whether the operation at an index has some of a special resource.
+fn has_of_resource(refs: &ForecastRefs<'_>, place: usize, scarcity: &Scarcity) -> bool
+    requires { (F : Forecast) × IsLent F refs.now × (place < length (entries F.plan.contents.operations)) }
+    ensures { (F : Forecast) (q : OpKeyValue) → IsLent F refs.now → IsOfRow F place q → Decides result (HasOf F.plan.contents q (Some (reason.TooLittleLeft scarcity.now))) }
+{
+    let reported = refs.plan.reported_at(place);
+    if !takes(reported.attribute) {
+        return false;
+    }
+    needs_resource(reported.operation, &scarcity.resource)
+}
+
+// Whether the operation at an index is the holder that is in the way.
+fn is_holder(refs: &ForecastRefs<'_>, place: usize, obstacle: &Obstacle) -> bool
+    requires { (F : Forecast) × IsLent F refs.now × (place < length (entries F.plan.contents.operations)) }
+    ensures { (F : Forecast) (q : OpKeyValue) → IsLent F refs.now → IsOfRow F place q → Decides result (HasOf F.plan.contents q (Some (reason.HeldBy obstacle.now))) }
+{
+    obstacle.holder == key_at(refs.plan, place)
+}
+
+// Whether the operation at an index has some of what lacks by a reason.
+fn has_of(refs: &ForecastRefs<'_>, place: usize, lack: &Option<Reason>) -> bool
+    requires { (F : Forecast) × IsLent F refs.now × (place < length (entries F.plan.contents.operations)) }
+    ensures { (F : Forecast) (q : OpKeyValue) → IsLent F refs.now → IsOfRow F place q → Decides result (HasOf F.plan.contents q lack.now) }
+{
+    let Some(lack) = lack else {
+        return false;
+    };
+    match lack {
+        Reason::Lacks(shortage) => has_of_supply(refs, place, shortage),
+        Reason::HeldBy(obstacle) => is_holder(refs, place, obstacle),
+        Reason::TooLittleLeft(scarcity) => has_of_resource(refs, place, scarcity),
+        _ => false,
+    }
 }
 
 // Whether the operation at an index begins before a moment and ends then.
@@ -183,22 +223,25 @@ fn lasts_until(refs: &ForecastRefs<'_>, place: usize, moment: Moment) -> bool
     ends_at(refs, place, moment) && is_before(begin_at(refs, place), moment)
 }
 
-// Whether an operation begins before a moment, ends then and frees what another one needs.
-fn is_freeing(refs: &ForecastRefs<'_>, other: usize, place: usize, moment: Moment) -> bool
-    requires { (F : Forecast) × IsLent F refs.now × (place < length (entries F.plan.contents.operations)) × (other < length (entries F.plan.contents.operations)) }
-    ensures { (F : Forecast) (o : OpKeyValue) (q : OpKeyValue) → IsLent F refs.now → IsOfRow F place o → IsOfRow F other q → Decides result (IsFreeing F o moment q) }
+// Whether the operation at an index begins before a moment, ends then, and has some of what lacks by a reason.
+fn is_freeing(refs: &ForecastRefs<'_>, other: usize, lack: &Option<Reason>, moment: Moment) -> bool
+    requires { (F : Forecast) × IsLent F refs.now × (other < length (entries F.plan.contents.operations)) }
+    ensures { (F : Forecast) (q : OpKeyValue) → IsLent F refs.now → IsOfRow F other q → Decides result (IsFreeing F moment lack.now q) }
 {
-    lasts_until(refs, other, moment) && frees(refs, other, place)
+    if !lasts_until(refs, other, moment) {
+        return false;
+    }
+    has_of(refs, other, lack)
 }
 
-// The index of the first operation in key order that begins before a moment, ends then and frees what an operation needs, if one
+// The index of the first operation in key order that begins before a moment, ends then, and has some of what lacks by a reason, if one
 // does.
-fn freeing(refs: &ForecastRefs<'_>, place: usize, moment: Moment) -> Option<usize>
-    requires { (F : Forecast) × IsLent F refs.now × (place < length (entries F.plan.contents.operations)) }
-    ensures { (F : Forecast) (o : OpKeyValue) → IsLent F refs.now → IsOfRow F place o → IsFirstIn F (IsFreeing F o moment) result }
+fn freeing(refs: &ForecastRefs<'_>, lack: &Option<Reason>, moment: Moment) -> Option<usize>
+    requires { (F : Forecast) × IsLent F refs.now }
+    ensures { (F : Forecast) → IsLent F refs.now → IsFirstIn F (IsFreeing F moment lack.now) result }
 {
     for other in 0..refs.done.len() {
-        if is_freeing(refs, other, place, moment) {
+        if is_freeing(refs, other, lack, moment) {
             return Some(other);
         }
     }
@@ -206,9 +249,14 @@ fn freeing(refs: &ForecastRefs<'_>, place: usize, moment: Moment) -> Option<usiz
 }
 
 // What an operation that isn't going begins after, which begins at a moment after the forecast's, and after no predecessor's end.
-fn cause_of(refs: &ForecastRefs<'_>, place: usize, moment: Moment) -> Preceding
+fn cause_of(
+    refs: &ForecastRefs<'_>,
+    place: usize,
+    lack: &Option<Reason>,
+    moment: Moment,
+) -> Preceding
     requires { (F : Forecast) × IsLent F refs.now × (place < length (entries F.plan.contents.operations)) }
-    ensures { (F : Forecast) (o : OpKeyValue) → IsLent F refs.now → IsOfRow F place o → ¬ IsGoing F.plan.contents o → ¬ (moment ≡ F.from) → ((p : OpKeyValue) → ¬ IsAwaited F o moment p) → IsBefore F o moment result.cause result.place }
+    ensures { (F : Forecast) (o : OpKeyValue) → IsLent F refs.now → IsOfRow F place o → ¬ IsGoing F.plan.contents o → ¬ (moment ≡ F.from) → ((p : OpKeyValue) → ¬ IsAwaited F o moment p) → IsBefore F o moment lack.now result.cause result.place }
 {
     let reported = refs.plan.reported_at(place);
     let operation = reported.operation;
@@ -226,14 +274,20 @@ fn cause_of(refs: &ForecastRefs<'_>, place: usize, moment: Moment) -> Preceding
     }
     Preceding {
         cause: Cause::Frees,
-        place: freeing(refs, place, moment),
+        place: freeing(refs, lack, moment),
     }
 }
 
 // What the operation at an index begins after, which is going or begins at a moment.
-fn cause_at(refs: &ForecastRefs<'_>, place: usize, is_going: bool, moment: Moment) -> Preceding
+fn cause_at(
+    refs: &ForecastRefs<'_>,
+    place: usize,
+    is_going: bool,
+    lack: &Option<Reason>,
+    moment: Moment,
+) -> Preceding
     requires { (F : Forecast) × IsLent F refs.now × (place < length (entries F.plan.contents.operations)) }
-    ensures { (F : Forecast) (o : OpKeyValue) → IsLent F refs.now → IsOfRow F place o → Decides is_going (IsGoing F.plan.contents o) → IsBefore F o moment result.cause result.place }
+    ensures { (F : Forecast) (o : OpKeyValue) → IsLent F refs.now → IsOfRow F place o → Decides is_going (IsGoing F.plan.contents o) → IsBefore F o moment lack.now result.cause result.place }
 {
     if is_going || moment == refs.from {
         return Preceding {
@@ -246,7 +300,7 @@ fn cause_at(refs: &ForecastRefs<'_>, place: usize, is_going: bool, moment: Momen
             cause: Cause::After,
             place: Some(other),
         },
-        None => cause_of(refs, place, moment),
+        None => cause_of(refs, place, lack, moment),
     }
 }
 
@@ -257,23 +311,31 @@ struct PathStep {
     place: Option<usize>,
 }
 
+// What the operation at an index lacks first as the minute begins at which it begins.
+fn lack_at(refs: &ForecastRefs<'_>, place: usize) -> Option<Reason>
+    requires { (F : Forecast) × IsLent F refs.now × (place < length (entries F.plan.contents.operations)) }
+    ensures { (F : Forecast) (o : OpKeyValue) → IsLent F refs.now → IsOfRow F place o → IsLack F.plan F.requests o (begin_minute F o) result }
+{
+    refs.lacks[place]
+}
+
 // The member of the path of a late occurrence at an index, which ends at a moment.
 fn step_at(refs: &ForecastRefs<'_>, late: &OccKey, place: usize, end: Moment) -> PathStep
     requires { (F : Forecast) × IsLent F refs.now × (place < length (entries F.plan.contents.operations)) }
-    ensures { (F : Forecast) (o : OpKeyValue) → IsLent F refs.now → IsOfRow F place o → EndsAt F end o → IsMember F o result.member × IsBefore F o result.member.begin result.member.cause result.place }
+    ensures { (F : Forecast) (o : OpKeyValue) → IsLent F refs.now → IsOfRow F place o → EndsAt F end o → IsMember F late.now o result.member × IsBefore F o result.member.begin result.member.lack result.member.cause result.place }
 {
-    let is_going = is_going_at(refs, place);
-    let begun = beginning_of(refs, place, is_going);
-    let begin = moment_or(refs.from, &begun);
-    let found = cause_at(refs, place, is_going, begin);
+    let begin = begin_at(refs, place);
+    let lack = lack_at(refs, place);
+    let found = cause_at(refs, place, is_going_at(refs, place), &lack, begin);
     PathStep {
         member: PathMember {
             late: *late,
             key: key_at(refs.plan, place),
             cause: found.cause,
             begin,
-            is_known: begun.is_some(),
+            is_known: !is_since_unknown(refs, place),
             end,
+            lack,
         },
         place: found.place,
     }
@@ -288,9 +350,11 @@ fn path_to(
     ending: Moment,
 ) -> Result<Vec<PathMember>, AllocError>
     requires { (F : Forecast) × (o : OpKeyValue) × IsLent F refs.now × IsOfRow F last o × EndsAt F ending o }
-    ensures { IfOk result (λ back. (F : Forecast) (o : OpKeyValue) → IsLent F refs.now → IsOfRow F last o → EndsAt F ending o → IsPathTo F o back.items) }
+    ensures { IfOk result (λ back. (F : Forecast) (o : OpKeyValue) → IsLent F refs.now → IsOfRow F last o → EndsAt F ending o → IsPathTo F late.now o back.items) }
 {
     read_for_proof(refs.plan);
+    // (named here, since a member has one)
+    let _none: Option<Reason> = None;
     let mut path = Vec::new(alloc);
     let mut next = Some(last);
     let mut until = ending;

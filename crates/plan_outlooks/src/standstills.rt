@@ -5,15 +5,15 @@ ghost use Rattle.plan_basics.specs.declared.Refusal.{Refusal};
 ghost use Rattle.plan_basics.specs.declared.keys.OpKey.{OpKey as OpKeyValue};
 ghost use Rattle.plan_outlooks.specs.Forecasts.{Forecast, NeverBegins};
 ghost use Rattle.plan_outlooks.specs.Lent.{IsLent, IsOfRow};
-ghost use Rattle.plan_outlooks.specs.Standstills.{AreStandstills, AreStandstillsByKey, IsAsked, IsOpenFirst, IsStandstill, is_waiting};
+ghost use Rattle.plan_outlooks.specs.Standstills.{AreStandstills, AreStandstillsByKey, IsAsked, IsOpenFirst, IsStandstill, is_waiting, standing_by};
 
 use super::lists::note_told;
 use super::refs::{ForecastRefs, key_at, later, latest_at, never_begins, read_for_proof};
-use super::rows::Standstill;
+use super::rows::{Standing, Standstill};
 use plan_basics::{Moment, Refusal};
 use plan_model::OperationRecord;
 use plan_reasons::{LoadedPlan, Reason, first_reason, next_opening};
-use status_rules::Status;
+use status_rules::{Mark, Status};
 use std::alloc::{AllocError, Global};
 use workstations::Workstation;
 
@@ -41,6 +41,28 @@ fn asked_at(loaded: &LoadedPlan, operation: &OperationRecord, from: Moment) -> M
     open_first(workstation, later(from, operation.not_before))
 }
 
+// Why an operation of this mark doesn't begin, by the first reason why it doesn't go on, if there is one.
+fn standing_by(mark: Mark, reason: Option<Reason>) -> Standing
+    ensures { result ≡ standing_by mark reason }
+{
+    match mark {
+        Mark::Error(code) => Standing::InError(code),
+        Mark::Interrupted => Standing::Interrupted,
+        Mark::Undecided => Standing::Undecided,
+        _ => standing_for(reason),
+    }
+}
+
+// So it is where its mark doesn't tell it.
+fn standing_for(reason: Option<Reason>) -> Standing
+    ensures { result ≡ standing_by Mark.Unmarked reason }
+{
+    match reason {
+        Some(reason) => Standing::For(reason),
+        None => Standing::Later,
+    }
+}
+
 // What is told of the operation at an index, if the forecast doesn't begin it. The error is always `Memory`.
 fn standstill(
     alloc: Global,
@@ -56,13 +78,16 @@ fn standstill(
     }
     let key = key_at(refs.last, place);
     let reported = refs.last.reported_at(place);
-    let at = asked_at(refs.last, reported.operation, refs.to);
+    let operation = reported.operation;
+    let at = asked_at(refs.last, operation, refs.to);
     let reason = first_reason(alloc, refs.last, &key, place, at)?;
     Ok(Some(Standstill {
         key,
+        workstation: operation.workstation,
+        attribute: reported.attribute,
         status: reported.status,
         at,
-        reason,
+        standing: standing_by(operation.mark, reason),
         latest: latest_at(refs.plan, place),
     }))
 }
@@ -76,6 +101,7 @@ fn standstills_by_key(alloc: Global, refs: &ForecastRefs<'_>) -> Result<Vec<Stan
     read_for_proof(refs.plan);
     // (named here, since a row that is let go has one)
     let _none: Option<Reason> = None;
+    let _nothing: Option<Standing> = None;
     let mut rows = Vec::new(alloc);
     for place in 0..refs.since.len() {
         note_told(&mut rows, standstill(alloc, refs, place))?;

@@ -1,6 +1,11 @@
 // All that a forecast tells.
-ghost use Rattle.std.specs.Prelude.{◌≡◌, ◌⊎◌, is_some, List, IfOk, IfErr};
+ghost use Rattle.std.specs.Prelude.{◌≡◌, ◌⊎◌, ℕ, is_some, length, List, Option, IfOk, IfErr};
+ghost use Rattle.std.specs.FinMap.{entries};
 ghost use Rattle.plan_basics.specs.declared.Refusal.{Refusal};
+ghost use Rattle.plan_basics.specs.declared.keys.OpKey.{OpKey};
+ghost use Rattle.plan_model.specs.Plan.{Plan as PlanValue};
+ghost use Rattle.forecasting.specs.Times.{AreTimesOf};
+ghost use Rattle.plan_outlooks.specs.Lacks.{AreLacks};
 ghost use Rattle.plan_forecast.specs.Ahead.{Ahead, IsForecast, tick};
 ghost use Rattle.plan_records.specs.Answer.{refused};
 ghost use Rattle.plan_records.specs.Step.{Step};
@@ -10,15 +15,18 @@ ghost use Rattle.plan_outlooks.specs.Forecasts.{Forecast, IsForecastOf, limit_of
 ghost use Rattle.plan_outlooks.specs.Lent.{IsLent};
 ghost use Rattle.plan_outlooks.specs.Outlooks.{AreOutlooks, IsOutlook};
 
+use super::lacks::{lacks_of, turns_of};
+use super::longest::{named_first, over_first};
 use super::occurrences::occurrence_outlooks;
 use super::operations::operation_outlooks;
+use super::overruns::taken_of;
 use super::paths::late_paths;
 use super::refs::{ForecastRefs, moment_or};
 use super::rows::Outlooks;
 use super::standstills::standstills;
 use forecasting::{Foretold, KnownStarts, forecast};
 use plan_basics::{Moment, Refusal};
-use plan_reasons::Plan;
+use plan_reasons::{LoadedPlan, Plan, Reason};
 use std::alloc::Global;
 
 // The rows of a forecast. The error is always `Memory`.
@@ -31,15 +39,38 @@ fn rows_of(alloc: Global, refs: &ForecastRefs<'_>, is_cut: bool) -> Result<Outlo
     let operations = operation_outlooks(alloc, refs)?;
     let paths = late_paths(alloc, refs, &occurrences)?;
     let never = standstills(alloc, refs)?;
+    let named = named_first(alloc, &operations)?;
+    let over = over_first(alloc, &operations)?;
     Ok(Outlooks {
         from: refs.from,
         to: refs.to,
         is_cut,
         occurrences,
         operations,
+        named,
+        over,
         paths,
         standstills: never,
     })
+}
+
+// What the operations of a plan lack first as the minute begins at which each begins in its forecast. The error is always `Memory`.
+fn lacks_in(
+    plan: &Plan,
+    loaded: &LoadedPlan,
+    foretold: &Foretold,
+    from: Moment,
+) -> Result<Vec<Option<Reason>>, Refusal>
+    requires loaded { loaded.now ≡ plan.now.plan.contents }
+    requires foretold { (last : PlanValue) × (t : Ahead) × (known : OpKey → Option ℕ) × (until : Option ℕ) × IsForecast plan.now.plan known from (limit_of until) foretold.now.requests.items t × IsInMemory t last foretold.now.since.items foretold.now.done.items }
+    ensures size { IfOk result (λ lacks. length lacks.items ≡ length (entries plan.now.plan.contents.operations)) }
+    ensures lacks { IfOk result (λ lacks. (F : Forecast) → IsForecastOf F → F.plan ≡ plan.now.plan → F.from ≡ from → F.requests ≡ foretold.now.requests.items → AreTimesOf F.last.since (entries F.plan.contents.operations) foretold.now.since.items → AreTimesOf F.last.done (entries F.plan.contents.operations) foretold.now.done.items → AreLacks F lacks.items) }
+    ensures memory { IfErr result (λ r. r ≡ Refusal.Memory) }
+{
+    let alloc = plan.alloc();
+    let turns = turns_of(alloc, loaded, &foretold.since, &foretold.done, from)?;
+    let count = loaded.contents().operations().len();
+    lacks_of(plan, &foretold.requests, &turns, count)
 }
 
 // What is read off a forecast of a plan, and the plan to which it leads. The error is always `Memory`.
@@ -55,6 +86,7 @@ fn told_of(
     ensures told { IfOk result (IsOutlook plan.now.plan (since_in known.now) from until.now) }
     ensures memory { IfErr result (λ r. r ≡ Refusal.Memory) }
 {
+    // (a plan is loaded wherever a forecast leads on, so neither is reached; `loaded` doesn't promise that it is there then)
     let Some(loaded) = plan.loaded() else {
         return Err(Refusal::Memory);
     };
@@ -62,12 +94,16 @@ fn told_of(
         return Err(Refusal::Memory);
     };
     let to = moment_or(last.clock(), until);
+    let taken = taken_of(plan.alloc(), loaded, known, from)?;
+    let lacks = lacks_in(plan, loaded, foretold, from)?;
     let refs = ForecastRefs {
         plan: loaded,
         last: end,
         since: &foretold.since,
         done: &foretold.done,
         known,
+        taken: &taken,
+        lacks: &lacks,
         from,
         to,
     };

@@ -25,7 +25,7 @@ use std::alloc::Global;
 use workstations::Workstation;
 
 /// Why an operation doesn't go on at a moment.
-#[derive(Debug, Drop)]
+#[derive(Drop)]
 pub struct Why {
     pub status: Status,
     /// The reasons, in the order of the lines that it has to meet: its status, its predecessors in key order, that it is

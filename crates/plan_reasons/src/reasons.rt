@@ -5,7 +5,7 @@ use special_resources::{Holder, Mode};
 use status_rules::Status;
 
 /// What a workstation has that operations take: servers, or the fixed resources R1 and R2.
-#[derive(Clone, Copy, Debug, PartialEq, Eq)]
+#[derive(Clone, Copy)]
 pub enum Supply {
     Servers,
     R1,
@@ -13,7 +13,7 @@ pub enum Supply {
 }
 
 /// What lacks on a workstation.
-#[derive(Clone, Copy, Debug, PartialEq, Eq)]
+#[derive(Clone, Copy)]
 pub struct Shortage {
     pub workstation: WsName,
     pub supply: Supply,
@@ -26,7 +26,7 @@ pub struct Shortage {
 }
 
 /// A workstation that is closed for a time.
-#[derive(Clone, Copy, Debug, PartialEq, Eq)]
+#[derive(Clone, Copy)]
 pub struct Closing {
     pub workstation: WsName,
     /// The first minute of its next interval.
@@ -34,14 +34,14 @@ pub struct Closing {
 }
 
 /// An operation that isn't satisfied, and its status.
-#[derive(Clone, Copy, Debug, PartialEq, Eq)]
+#[derive(Clone, Copy)]
 pub struct Unsatisfied {
     pub op: OpKey,
     pub status: Status,
 }
 
 /// What a mark tells of a start.
-#[derive(Clone, Copy, Debug, PartialEq, Eq)]
+#[derive(Clone, Copy)]
 pub enum Beginning {
     /// The plan named the operation.
     Named,
@@ -52,21 +52,21 @@ pub enum Beginning {
 }
 
 /// The status of an operation from which nothing starts, and what its mark tells of a start.
-#[derive(Clone, Copy, Debug, PartialEq, Eq)]
+#[derive(Clone, Copy)]
 pub struct Rest {
     pub status: Status,
     pub beginning: Beginning,
 }
 
 /// Another operation that holds a special resource, and its status.
-#[derive(Clone, Copy, Debug, PartialEq, Eq)]
+#[derive(Clone, Copy)]
 pub struct OtherHolder {
     pub holder: Holder,
     pub status: Status,
 }
 
 /// A holding of a special resource that stands in the way.
-#[derive(Clone, Copy, Debug, PartialEq, Eq)]
+#[derive(Clone, Copy)]
 pub struct Obstacle {
     pub resource: ResName,
     pub holder: OpKey,
@@ -74,7 +74,7 @@ pub struct Obstacle {
 }
 
 /// A special resource of which others leave too little.
-#[derive(Clone, Copy, Debug, PartialEq, Eq)]
+#[derive(Clone, Copy)]
 pub struct Scarcity {
     pub resource: ResName,
     /// How much of it those that hold it leave.
@@ -86,7 +86,7 @@ pub struct Scarcity {
 /// A reason why an operation doesn't start at a moment; on a workstation of attribute C, why it doesn't complete; on one
 /// that doesn't report, and of a NOP, why it doesn't pass (IBM OPC/ESA, Controlling and Monitoring the Workload; the
 /// reasons and their order are this project's own).
-#[derive(Clone, Copy, Debug, PartialEq, Eq)]
+#[derive(Clone, Copy)]
 pub enum Reason {
     /// Its status is none from which it goes on: C, D, E, S or U, or I where its workstation doesn't report starts.
     AtRest(Rest),

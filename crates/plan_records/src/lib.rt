@@ -71,14 +71,14 @@ pub struct Request {
 
 /// What a request is answered: it is carried out, and these operations are named to start, in this order; or it isn't
 /// carried out, and nothing changes.
-#[derive(Debug, Drop)]
+#[derive(Drop)]
 pub enum Reply {
     Accepted { named: Vec<OpKey> },
     Refused(Refusal),
 }
 
 /// A row of the tables, with its columns.
-#[derive(Clone, Copy, Debug, PartialEq, Eq)]
+#[derive(Clone, Copy, PartialEq, Eq)]
 pub enum PlanRow {
     Meta {
         version: u32,
@@ -149,7 +149,7 @@ impl PlanRow {
 }
 
 /// A row of the table `operation`.
-#[derive(Clone, Copy, Debug, PartialEq, Eq)]
+#[derive(Clone, Copy, PartialEq, Eq)]
 pub struct OperationRow {
     pub op: OpKey,
     pub ws: WsName,

@@ -13,7 +13,7 @@ pub use laws::one_text;
 pub use made::{
     errors_made, late_made, loaded_plan, occurrences_made, ready_made, show_made, why_made,
 };
-pub use plan_shows::{Show, health_text, started_text};
+pub use plan_shows::{Show, health_text, operation_typed, started_text};
 pub use reports::{
     ReportFault, error_report, late_report, occurrence_report, ready_report, show_report,
     why_report,

@@ -16,7 +16,7 @@ use std::alloc::Global;
 use std::io::Write;
 
 /// Why a report isn't written, or not wholly.
-#[derive(Clone, Copy, Debug, PartialEq, Eq)]
+#[derive(Clone, Copy)]
 pub enum ReportFault {
     /// It is refused, and nothing was written.
     Refused(Refusal),

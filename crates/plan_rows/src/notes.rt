@@ -25,7 +25,7 @@ use plan_records::Changes;
 use std::alloc::{AllocError, Global};
 
 /// What may differ beside operations.
-#[derive(Clone, Copy, Debug)]
+#[derive(Clone, Copy)]
 pub enum FacilityChange {
     Nothing,
     /// Which special resources are available.

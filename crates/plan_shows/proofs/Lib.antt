@@ -1,8 +1,11 @@
 pub mod Beside
+pub mod DependenciesShown
 pub mod Filters
 pub mod Health
 pub mod HoldersShown
 pub mod HoursShown
+pub mod Known
 pub mod NotBefore
 pub mod OperationLists
+pub mod TypedKeys
 pub mod Unloaded

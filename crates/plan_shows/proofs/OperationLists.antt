@@ -1,25 +1,31 @@
 -- The lists of operations, out of the views of all operations.
-use Rattle.std.proofs.Common.{◌≡◌, ◌&&◌, ◌∙◌, true, false, refl, sym, ap, subst, Bool, List, map, Contains}
+use Rattle.std.proofs.Common.{◌≡◌, ◌↔◌, ◌&&◌, ◌∙◌, true, false, refl, sym, ap, subst, Bool, List, map, Contains}
 use Rattle.std.proofs.lemmas.Cmp.{tied_itself}
+use Rattle.std.proofs.lemmas.List.Elements.{All-contains}
 use Rattle.std.proofs.lemmas.Option.{same_Some}
+use Rattle.std.specs.BTreeSet.{BTreeSet, IsFromIterResult}
 use Rattle.std.specs.Cmp.{IsTotalOrder}
 use Rattle.std.specs.List.{filter}
 use Rattle.std.specs.Ordering.{eq_by_cmp, is_eq}
 use Rattle.std.specs.declared.cmp.Ordering.{Ordering}
 use Rattle.plan_basics.proofs.Members.{tied_is}
-use Rattle.plan_basics.specs.Keys.{Name, name_cmp, name_cmp_total, name_cmp-IsAntisymmetric, occurrence_cmp_total, occurrence_cmp-IsAntisymmetric, operation_cmp}
+use Rattle.plan_basics.specs.Keys.{Name, name_cmp, name_cmp_total, name_cmp-IsAntisymmetric, occurrence_cmp_total, occurrence_cmp-IsAntisymmetric, operation_cmp, operation_cmp-IsAntisymmetric}
 use Rattle.plan_basics.specs.declared.keys.OccKey.{OccKey}
 use Rattle.plan_basics.specs.declared.keys.OpKey.{OpKey}
+use Rattle.plan_checks.proofs.ReachedKeys.{all_in_plan}
+use Rattle.plan_model.proofs.Members.{member_if}
 use Rattle.plan_model.specs.Contents.{Contents, IsInPlan, Operation}
+use Rattle.plan_model.specs.Starts.{Reaches}
 use Rattle.plan_model.specs.Status.{HasStatus}
 use Rattle.plan_model.specs.Valid.{IsValid}
+use Rattle.plan_model.specs.ready_list.specs.Choice.{is_among}
 use Rattle.plan_reasons.specs.plan_core.specs.Views.{AreOpViews, IsOpView}
 use Rattle.plan_reasons.specs.plan_core.specs.declared.views.OpView.{OpView}
 use Rattle.plan_reasons.specs.plan_drafts.proofs.Lists.{from_map, in_map}
 use Rattle.status_rules.specs.declared.Status.{Status}
 use Rattle.status_rules.specs.declared.Status.TheVariants.{Started}
 use Rattle.tracker_receipts.specs.plan_laws.proofs.Standing.{one_status}
-use Rattle.plan_shows.specs.Views.{AreViewsOf, IsOfOccurrence, IsStarted, IsStartedOn, is_of_occurrence, is_started, is_started_on}
+use Rattle.plan_shows.specs.Views.{AreViewsOf, IsOfOccurrence, IsStarted, IsStartedOn, has_key, is_of_occurrence, is_started, is_started_on}
 use Rattle.plan_shows.proofs.Filters.{among, into_filter, passes, sorted_filtered}
 
 -- ---- what the tests tell
@@ -31,7 +37,7 @@ started_by : (s : Status) → is_started s ≡ true → s ≡ Started
 started_by Started e = refl
 started_by s e = absurd (cc)
 
-same_is_tied : {K : Type 0} {R : K → K → Ordering} → IsTotalOrder R → (a b : K) → a ≡ b → eq_by_cmp R a b ≡ true
+pub same_is_tied : {K : Type 0} {R : K → K → Ordering} → IsTotalOrder R → (a b : K) → a ≡ b → eq_by_cmp R a b ≡ true
 same_is_tied {R = R} total a b e = ap is_eq (ap (λ k. R k b) e ∙ tied_itself total b)
 
 module _ (P : Contents) (valid : IsValid P) (views : List OpView) (are : AreOpViews P views) where
@@ -77,3 +83,11 @@ module _ (P : Contents) (valid : IsValid P) (views : List OpView) (are : AreOpVi
       listed (is_of_occurrence k) (IsOfOccurrence P k) (λ o is. is.0)
       (λ v x e. ((x.op, x.is_in_plan, tt), tied_is occurrence_cmp-IsAntisymmetric v.key.occurrence k e))
       (λ v x is. same_is_tied occurrence_cmp_total v.key.occurrence k is.1)
+
+  pub are_reached : (k : OpKey) → IsInPlan P k → (keys : List OpKey) → ((o : OpKey) → (is_among keys o ≡ true) ↔ Reaches P k o) → (set : BTreeSet OpKey) → IsFromIterResult operation_cmp keys set
+      → AreViewsOf P (Reaches P k) (filter (has_key set) views)
+  are_reached k there keys reached set made =
+      listed (has_key set) (Reaches P k)
+      (λ o r. All-contains (IsInPlan P) keys o (all_in_plan P k keys there reached) (member_if operation_cmp-IsAntisymmetric keys o ((reached o).1 r)))
+      (λ v x e. (reached v.key).0 (sym (made.0 v.key) ∙ e))
+      (λ v x r. made.0 v.key ∙ (reached v.key).1 r)

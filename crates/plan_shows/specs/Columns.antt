@@ -1,6 +1,7 @@
 -- The columns of each show: texts stand at the left of a column, numbers at the right, of these widths.
 use Rattle.std.specs.Prelude.{ℕ, zero, suc, Bool, true, false, List, [], ◌∷◌, codes, Option, Some, None}
 use Rattle.plan_basics.specs.Attributes.{attribute_letter}
+use Rattle.plan_basics.specs.Intervals.{OpenInterval}
 use Rattle.plan_basics.specs.MomentTexts.{moment_text}
 use Rattle.plan_basics.specs.declared.keys.OpKey.{OpKey}
 use Rattle.plan_reasons.specs.Texts.{mode_word}
@@ -14,6 +15,7 @@ use Rattle.status_rules.specs.declared.Mark.{Mark}
 use Rattle.status_rules.specs.declared.Mark.TheVariants as mark
 use Rattle.report_lines.specs.Lines.{left, right}
 use Rattle.report_lines.specs.Moments.{hyphens, latest_text}
+use Rattle.plan_shows.specs.declared.dependencies.DependencyView.{DependencyView}
 use Rattle.plan_shows.specs.declared.resources.HolderView.{HolderView}
 use Rattle.plan_shows.specs.declared.resources.ResourceRow.{ResourceRow}
 use Rattle.plan_shows.specs.declared.resources.ResourceRow.TheVariants as row
@@ -72,6 +74,29 @@ operation_columns v =
     ∷ right 5 v.waiting
     ∷ []
 
+-- a dependency: its predecessor, then its successor, each with its status
+abbrev pub dependency_columns : DependencyView → List (List ℕ)
+dependency_columns v =
+    left 16 v.predecessor.occurrence.app
+    ∷ left 16 (moment_text v.predecessor.occurrence.arrival)
+    ∷ right 3 v.predecessor.number
+    ∷ left 1 (status_letter v.predecessor_status ∷ [])
+    ∷ left 16 v.successor.occurrence.app
+    ∷ left 16 (moment_text v.successor.occurrence.arrival)
+    ∷ right 3 v.successor.number
+    ∷ left 1 (status_letter v.successor_status ∷ [])
+    ∷ []
+
+-- an operation that a rerun reaches
+abbrev pub reached_columns : OpView → List (List ℕ)
+reached_columns v =
+    left 16 v.key.occurrence.app
+    ∷ left 16 (moment_text v.key.occurrence.arrival)
+    ∷ right 3 v.key.number
+    ∷ left 4 v.workstation
+    ∷ left 1 (status_letter v.status ∷ [])
+    ∷ []
+
 -- ---- special resources
 
 -- a special resource, with what those that hold it leave
@@ -122,6 +147,10 @@ workstation_columns v =
     ∷ right 2 v.hours.offered.r2
     ∷ right 5 v.ready
     ∷ []
+
+-- an open interval: from, to, servers, R1 and R2
+abbrev pub interval_columns : OpenInterval → List (List ℕ)
+interval_columns x = left 16 (moment_text x.from) ∷ left 16 (moment_text x.end) ∷ right 2 x.servers ∷ right 2 x.r1 ∷ right 2 x.r2 ∷ []
 
 -- ---- trackers
 

@@ -2,9 +2,12 @@ pub use Rattle.plan_reasons
 pub use Rattle.plan_reasons.specs.plan_core
 pub use Rattle.report_lines
 pub mod Views
+pub mod Dependencies
+pub mod Intervals
 pub mod Resources
 pub mod Stations
 pub mod Trackers
+pub mod Typed
 pub mod Columns
 pub mod Shows
 pub mod Values

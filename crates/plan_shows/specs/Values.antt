@@ -44,6 +44,6 @@ started_refusal_of None P = if P.loaded then None else Some refusal.NotLoaded
 abbrev pub clock_data : Plan → Data
 clock_data P = if P.loaded then string (moment_text P.clock) else null
 
--- how the desk is: its clock, and whether a plan is loaded
-abbrev pub health_data : Plan → Data
-health_data P = object (member (codes "clock") (clock_data P) (member (codes "loaded") (boolean P.loaded) no_members))
+-- how the desk is: its clock, whether a plan is loaded, and for how many minutes the clock has stood
+abbrev pub health_data : ℕ → Plan → Data
+health_data stood P = object (member (codes "clock") (clock_data P) (member (codes "loaded") (boolean P.loaded) (member (codes "stood") (whole stood) no_members)))

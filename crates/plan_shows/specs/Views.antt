@@ -1,5 +1,7 @@
 -- Which operations are listed, in key order.
 use Rattle.std.specs.Prelude.{◌≡◌, ◌↔◌, ◌&&◌, Bool, true, false, List, map, Contains}
+use Rattle.std.specs.BTreeSet.{BTreeSet}
+use Rattle.std.specs.BTreeSet as tree
 use Rattle.std.specs.List.Sorted.{IsStrictlySortedBy}
 use Rattle.std.specs.Ordering.{eq_by_cmp}
 use Rattle.plan_basics.specs.Keys.{Name, name_cmp, occurrence_cmp, operation_cmp}
@@ -44,3 +46,7 @@ is_started_on w v = is_started v.status && eq_by_cmp name_cmp v.workstation w
 -- whether it is of this occurrence
 abbrev pub is_of_occurrence : OccKey → OpView → Bool
 is_of_occurrence c v = eq_by_cmp occurrence_cmp v.key.occurrence c
+
+-- whether its key is among these
+abbrev pub has_key : BTreeSet OpKey → OpView → Bool
+has_key keys v = tree.contains operation_cmp keys v.key

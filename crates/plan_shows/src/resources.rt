@@ -14,7 +14,7 @@ use status_rules::Status;
 use std::alloc::{AllocError, Global};
 
 /// An operation that holds a special resource.
-#[derive(Clone, Copy, Debug)]
+#[derive(Clone, Copy)]
 pub struct HolderView {
     pub op: OpKey,
     pub status: Status,
@@ -24,7 +24,7 @@ pub struct HolderView {
 }
 
 /// A special resource, and how much of it is left.
-#[derive(Clone, Copy, Debug)]
+#[derive(Clone, Copy)]
 pub struct ResourceAmounts {
     pub name: ResName,
     pub stock: Stock,
@@ -33,14 +33,14 @@ pub struct ResourceAmounts {
 }
 
 /// A special resource, and all that hold it, in key order.
-#[derive(Debug, Drop)]
+#[derive(Drop)]
 pub struct ResourceView {
     pub amounts: ResourceAmounts,
     pub holders: Vec<HolderView>,
 }
 
 /// A row of the show of special resources.
-#[derive(Clone, Copy, Debug)]
+#[derive(Clone, Copy)]
 pub enum ResourceRow {
     Resource(ResourceAmounts),
     Holder(HolderView),
@@ -56,8 +56,8 @@ fn taken_by(quantity: u32, claim: Claim) -> u32
     }
 }
 
-// The status of an operation of the plan.
-fn status_of(loaded: &LoadedPlan, key: &OpKey) -> Status
+/// The status of an operation of the plan.
+pub(crate) fn status_of(loaded: &LoadedPlan, key: &OpKey) -> Status
     requires { IsInPlan loaded.now key.now }
     ensures { HasStatus loaded.now key.now result }
 {

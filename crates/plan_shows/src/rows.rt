@@ -1,15 +1,16 @@
 // The rows of the shows, column by column.
 ghost use Rattle.std.specs.Prelude.{◌≡◌, ◌++◌, ◌∷◌, Some, OnOk};
-ghost use Rattle.plan_shows.specs.Columns.{holder_columns, hours_word, no_report, operation_columns, report_columns, resource_columns, row_columns, started_columns, tracker_columns, workstation_columns};
+ghost use Rattle.plan_shows.specs.Columns.{dependency_columns, holder_columns, hours_word, interval_columns, no_report, operation_columns, reached_columns, report_columns, resource_columns, row_columns, started_columns, tracker_columns, workstation_columns};
 ghost use Rattle.report_lines.specs.Lines.{left, line, right};
 
 use super::columns::{
     available_text, held_text, mark_word, mode_word, nop_text, not_before_text, verb_text,
 };
+use super::dependencies::DependencyView;
 use super::resources::{HolderView, ResourceAmounts, ResourceRow};
 use super::stations::WorkstationView;
 use super::trackers::TrackerView;
-use plan_basics::{NO_MOMENT, OccKey, OpKey};
+use plan_basics::{Interval, NO_MOMENT, OccKey, OpKey};
 use plan_reasons::OpView;
 use report_lines::{Field, Layout, latest_text, moment_text, put_line, right};
 use request_json::Request;
@@ -57,6 +58,52 @@ impl Layout<OpView> for OperationRows {
                 Field::Left(16, &not_before_text(view.not_before)),
                 Field::Left(16, &latest_text(view.latest)),
                 right(5, u64::from(view.waiting)),
+            ],
+        )
+    }
+}
+
+/// Dependencies.
+pub(crate) struct DependencyRows;
+
+impl Layout<DependencyView> for DependencyRows {
+    ghost columns = { dependency_columns };
+
+    fn put(text: &mut Vec<u8>, view: &DependencyView) -> Result<(), AllocError> {
+        let before = view.predecessor.occurrence;
+        let after = view.successor.occurrence;
+        put_line(
+            text,
+            &[
+                Field::Left(16, before.app.as_bytes()),
+                Field::Left(16, &moment_text(before.arrival)),
+                right(3, u64::from(view.predecessor.number)),
+                Field::Left(1, &[view.predecessor_status.letter()]),
+                Field::Left(16, after.app.as_bytes()),
+                Field::Left(16, &moment_text(after.arrival)),
+                right(3, u64::from(view.successor.number)),
+                Field::Left(1, &[view.successor_status.letter()]),
+            ],
+        )
+    }
+}
+
+/// Operations that a rerun reaches.
+pub(crate) struct ReachedRows;
+
+impl Layout<OpView> for ReachedRows {
+    ghost columns = { reached_columns };
+
+    fn put(text: &mut Vec<u8>, view: &OpView) -> Result<(), AllocError> {
+        let OccKey { app, arrival } = view.key.occurrence;
+        put_line(
+            text,
+            &[
+                Field::Left(16, app.as_bytes()),
+                Field::Left(16, &moment_text(arrival)),
+                right(3, u64::from(view.key.number)),
+                Field::Left(4, view.workstation.as_bytes()),
+                Field::Left(1, &[view.status.letter()]),
             ],
         )
     }
@@ -140,6 +187,26 @@ impl Layout<WorkstationView> for WorkstationRows {
                 right(2, u64::from(view.given.r2)),
                 right(2, u64::from(offered.r2)),
                 right(5, view.ready as u64),
+            ],
+        )
+    }
+}
+
+/// Open intervals.
+pub(crate) struct IntervalRows;
+
+impl Layout<Interval> for IntervalRows {
+    ghost columns = { interval_columns };
+
+    fn put(text: &mut Vec<u8>, interval: &Interval) -> Result<(), AllocError> {
+        put_line(
+            text,
+            &[
+                Field::Left(16, &moment_text(interval.from())),
+                Field::Left(16, &moment_text(interval.end())),
+                right(2, u64::from(interval.servers())),
+                right(2, u64::from(interval.r1())),
+                right(2, u64::from(interval.r2())),
             ],
         )
     }

@@ -18,7 +18,7 @@ use std::alloc::{AllocError, Global};
 use workstations::{Capacity, Workstation};
 
 /// Whether a workstation is open at a moment, until when, and what is open then.
-#[derive(Clone, Copy, Debug)]
+#[derive(Clone, Copy)]
 pub struct Hours {
     /// Whether one of its intervals contains the moment.
     pub is_open: bool,
@@ -29,7 +29,7 @@ pub struct Hours {
 }
 
 /// A workstation, with what is read off the plan for it.
-#[derive(Clone, Copy, Debug)]
+#[derive(Clone, Copy)]
 pub struct WorkstationView {
     pub name: WsName,
     pub attribute: Attr,

@@ -95,20 +95,20 @@ pub fn started_text(
 }
 
 // How the desk of a plan is.
-fn health_value(alloc: Global, plan: &Plan) -> Result<Value, AllocError>
-    ensures { IfOk result (λ v. view v ≡ health_data plan.now.plan) }
+fn health_value(alloc: Global, plan: &Plan, stood: u64) -> Result<Value, AllocError>
+    ensures { IfOk result (λ v. view v ≡ health_data stood plan.now.plan) }
 {
     if !plan.is_loaded() {
-        return json!(in alloc; { "clock": null, "loaded": false });
+        return json!(in alloc; { "clock": null, "loaded": false, "stood": stood });
     }
     let clock = format!(in alloc; "{}", plan.clock())?;
-    json!(in alloc; { "clock": clock, "loaded": true })
+    json!(in alloc; { "clock": clock, "loaded": true, "stood": stood })
 }
 
-/// How the desk of a plan is, as JSON: the moment of its clock, and whether a plan is loaded. It fails for want of memory
-/// only.
-pub fn health_text(alloc: Global, plan: &Plan) -> Result<Vec<u8>, AllocError>
-    ensures { IfOk result (λ text. text.items ≡ compact_text (health_data plan.now.plan)) }
+/// How the desk of a plan is, as JSON: the moment of its clock, whether a plan is loaded, and that the clock has stood for so many
+/// minutes. It fails for want of memory only.
+pub fn health_text(alloc: Global, plan: &Plan, stood: u64) -> Result<Vec<u8>, AllocError>
+    ensures { IfOk result (λ text. text.items ≡ compact_text (health_data stood plan.now.plan)) }
 {
-    health_value(alloc, plan)?.to_vec(alloc)
+    health_value(alloc, plan, stood)?.to_vec(alloc)
 }

@@ -18,7 +18,7 @@ use status_rules::Preds;
 use std::alloc::Global;
 
 /// What is known of an operation's live predecessors.
-#[derive(Clone, Copy, Debug)]
+#[derive(Clone, Copy)]
 pub struct Standing {
     pub preds: Preds,
     /// How many of its live predecessors aren't satisfied.

@@ -16,7 +16,7 @@ use status_rules::{Mark, Status, status_of};
 use std::alloc::{AllocError, Global};
 
 /// What the figures of a whole plan go by of one operation, read off its record once.
-#[derive(Clone, Copy, Debug)]
+#[derive(Clone, Copy)]
 pub struct OperationSummary {
     pub mark: Mark,
     pub held: bool,

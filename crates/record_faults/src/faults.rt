@@ -5,7 +5,7 @@ use super::kinds::Shape;
 use plan_drafts::RowKey;
 
 /// What is wrong with a record.
-#[derive(Clone, Copy, Debug, PartialEq, Eq)]
+#[derive(Clone, Copy, PartialEq, Eq)]
 pub enum Fault {
     /// It says nothing.
     Shape(Shape),
@@ -28,7 +28,7 @@ pub enum Fault {
 }
 
 /// A fault, and the place of its record: how many records are before it.
-#[derive(Clone, Copy, Debug, PartialEq, Eq)]
+#[derive(Clone, Copy)]
 pub struct RecordFault {
     pub place: usize,
     pub fault: Fault,

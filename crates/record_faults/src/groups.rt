@@ -12,7 +12,7 @@ use std::alloc::{AllocError, Global};
 
 /// Records of which a plan may hold so many: those of a kind, the intervals of a workstation, or the needs of an
 /// operation.
-#[derive(Clone, Copy, Debug, PartialEq, Eq, PartialOrd, Ord)]
+#[derive(Clone, Copy, PartialEq, Eq, PartialOrd, Ord)]
 pub enum Group {
     Workstations,
     IntervalsOf(WsName),

@@ -9,7 +9,7 @@ use plan_basics::limits::{
 };
 
 /// The kind of a record, which its first field tells by a letter.
-#[derive(Clone, Copy, Debug, PartialEq, Eq)]
+#[derive(Clone, Copy, PartialEq, Eq)]
 pub enum Kind {
     Workstation,
     Interval,
@@ -21,7 +21,7 @@ pub enum Kind {
 }
 
 /// What a field of a record may be.
-#[derive(Clone, Copy, Debug, PartialEq, Eq)]
+#[derive(Clone, Copy, PartialEq, Eq)]
 pub enum Form {
     /// A workstation's name.
     WorkstationName,
@@ -46,7 +46,7 @@ pub enum Form {
 }
 
 /// What is wrong with a record by itself.
-#[derive(Clone, Copy, Debug, PartialEq, Eq)]
+#[derive(Clone, Copy, PartialEq, Eq)]
 pub enum Shape {
     /// It hasn't ten fields, but so many.
     Length(usize),

@@ -6,7 +6,7 @@ use plan_drafts::RowKey;
 use plan_items::Item;
 
 /// Which of the two things that an item may name.
-#[derive(Clone, Copy, Debug, PartialEq, Eq)]
+#[derive(Clone, Copy, PartialEq, Eq)]
 pub enum Naming {
     First,
     Second,

@@ -22,7 +22,7 @@ use plan_items::{Item, OperationItem};
 use std::alloc::{AllocError, Global};
 
 /// What a record may be warned of.
-#[derive(Clone, Copy, Debug, PartialEq, Eq)]
+#[derive(Clone, Copy)]
 pub enum Warning {
     /// It says a workstation of attribute A or S, of which no record says an open interval.
     NeverOpens,
@@ -33,7 +33,7 @@ pub enum Warning {
 }
 
 /// A warning, and the place of its record: how many records are before it.
-#[derive(Clone, Copy, Debug, PartialEq, Eq)]
+#[derive(Clone, Copy)]
 pub struct RecordWarning {
     pub place: usize,
     pub warning: Warning,

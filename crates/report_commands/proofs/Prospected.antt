@@ -1,14 +1,13 @@
 -- What is shown of the night ahead.
 use Rattle.std.proofs.Common.{◌≡◌, inl, inr, ℕ, ℤ, List, Option, None, Result, IfOk}
 use Rattle.std.proofs.lemmas.Result.{IfOk-weaker}
-use Rattle.std.specs.Option.{option_flatten}
 use Rattle.plan_basics.specs.declared.Refusal.{Refusal}
 use Rattle.plan_basics.specs.declared.keys.OpKey.{OpKey}
 use Rattle.plan_records.specs.plan_model.specs.Contents.{Contents}
 use Rattle.plan_records.specs.plan_model.specs.Plan.{Plan}
 use Rattle.plan_records.specs.Answer.{accepted, refused}
 use Rattle.plan_records.specs.Run.{State}
-use Rattle.board_pages.specs.forecast_texts.specs.plan_outlooks.specs.forecasting.specs.Known.{entry_of, since_in}
+use Rattle.board_pages.specs.forecast_texts.specs.plan_outlooks.specs.forecasting.specs.Known.{entry_of, since_in, since_noted}
 use Rattle.board_pages.specs.forecast_texts.specs.plan_outlooks.specs.forecasting.specs.declared.known.KnownStarts.{KnownStarts}
 use Rattle.board_pages.specs.forecast_texts.specs.plan_outlooks.specs.plan_forecast.specs.Ahead.{unknown}
 use Rattle.command_answers.specs.Answers.{IsShown}
@@ -24,7 +23,7 @@ use Rattle.report_commands.specs.declared.prospects.Prospect.{Prospect}
 
 -- where nothing is kept nothing is known
 pub none_known : (known : KnownStarts) → ((o : OpKey) → entry_of known o ≡ None) → since_in known ≡ unknown
-none_known known none = λ i o. option_flatten (none o i)
+none_known known none = λ i o. since_noted (none o i)
 
 module _ (k : Prospect) (old new : Option (List ℕ)) (r : Result Ending Fault) (until : Option ℤ) where
   -- of a plan that was loaded

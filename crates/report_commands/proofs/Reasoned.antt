@@ -1,7 +1,6 @@
 -- What is shown of why an operation doesn't go on.
 use Rattle.std.proofs.Common.{◌≡◌, inl, inr, subst, ℕ, ℤ, pos, Bool, true, List, Option, Some, Result, Err, IfOk, OnOk}
 use Rattle.std.proofs.lemmas.Result.{IfOk-weaker}
-use Rattle.plan_basics.specs.KeyTexts.{IsOperationText}
 use Rattle.plan_basics.specs.declared.Refusal.{Refusal}
 use Rattle.plan_basics.specs.declared.keys.OpKey.{OpKey}
 use Rattle.plan_records.specs.plan_model.specs.Contents.{Contents}
@@ -10,6 +9,7 @@ use Rattle.plan_records.specs.Answer.{accepted, refused}
 use Rattle.plan_records.specs.Run.{State}
 use Rattle.command_desks.specs.desk_tables.specs.Faults.{IsOpeningRefusal}
 use Rattle.plan_reports.specs.Reports.{IsOwed, IsWhyReport, IsWritten, why_refusal_of}
+use Rattle.plan_reports.specs.plan_shows.specs.Typed.{IsTypedOperation}
 use Rattle.plan_reports.specs.declared.reports.ReportFault.{ReportFault}
 use Rattle.plan_reports.specs.declared.reports.ReportFault.TheVariants as report_fault
 use Rattle.command_answers.specs.Answers.{IsShown}
@@ -60,7 +60,7 @@ module _ (o : OpKey) (old new : Option (List ℕ)) (r : Result Ending Fault) whe
       IfOk-weaker r (IsWhyShown o (minute_asked z P) usable P old new) (IsWhyOfDesk o z old new)
       (λ (e : Ending) (was : IsWhyShown o (minute_asked z P) usable P old new e). inl (usable, P, was)) shown
 
-  module _ (op : List ℕ) (at : Option (List ℕ)) (z : Option ℤ) (names : IsOperationText op o) (given : IsMinuteGiven at z) where
+  module _ (op : List ℕ) (at : Option (List ℕ)) (z : Option ℤ) (names : IsTypedOperation op o) (given : IsMinuteGiven at z) where
     -- as the words ask for, at a desk that was there
     pub why_asked : IfOk r (IsWhyOfDesk o z old new) → IfOk r (IsWhyAsked op at old new)
     why_asked shown = IfOk-weaker r (IsWhyOfDesk o z old new) (IsWhyAsked op at old new) (λ (e : Ending) (was : IsWhyOfDesk o z old new e). (o, names, z, given, inl was)) shown

@@ -34,16 +34,16 @@ module _ (r : Result Ending Fault) (old new : Option (List ℕ)) where
       (none_shown IsOpeningRefusal none r old new why shown)
 
   -- the show that words ask for, of a desk
-  pub show_shown : (word : List ℕ) (occ : Option (List ℕ)) (s : Show) (usable : Bool) (P : Plan) (T : Receipts)
-      → AsksShow word occ s → IfOk r (IsShowShown s usable P T old new) → IfOk r (IsShowAsked word occ old new)
-  show_shown word occ s usable P T asks shown =
-      IfOk-weaker r (IsShowShown s usable P T old new) (IsShowAsked word occ old new)
+  pub show_shown : (word : List ℕ) (given : List ℕ → List ℕ) (s : Show) (usable : Bool) (P : Plan) (T : Receipts)
+      → AsksShow word given s → IfOk r (IsShowShown s usable P T old new) → IfOk r (IsShowAsked word given old new)
+  show_shown word given s usable P T asks shown =
+      IfOk-weaker r (IsShowShown s usable P T old new) (IsShowAsked word given old new)
       (λ (e : Ending) (is : IsShowShown s usable P T old new e). (s, asks, inl (usable, P, T, is))) shown
 
   -- why no desk could be opened for it
-  pub show_refused : (word : List ℕ) (occ : Option (List ℕ)) (s : Show) (none : NoDesk)
-      → AsksShow word occ s → IsWhyNoDesk IsOpeningRefusal none → IfOk r (IsNoneShown none old new) → IfOk r (IsShowAsked word occ old new)
-  show_refused word occ s none asks why shown =
-      IfOk-weaker r (λ e. (p : Refusal) × IsOpeningRefusal p × IsShown (refused p) old new e) (IsShowAsked word occ old new)
+  pub show_refused : (word : List ℕ) (given : List ℕ → List ℕ) (s : Show) (none : NoDesk)
+      → AsksShow word given s → IsWhyNoDesk IsOpeningRefusal none → IfOk r (IsNoneShown none old new) → IfOk r (IsShowAsked word given old new)
+  show_refused word given s none asks why shown =
+      IfOk-weaker r (λ e. (p : Refusal) × IsOpeningRefusal p × IsShown (refused p) old new e) (IsShowAsked word given old new)
       (λ (e : Ending) (was : (p : Refusal) × IsOpeningRefusal p × IsShown (refused p) old new e). (s, asks, inr was))
       (none_shown IsOpeningRefusal none r old new why shown)

@@ -1,5 +1,5 @@
 -- What the program shows of the night ahead: the text of a forecast, or the board's page.
-use Rattle.std.specs.Prelude.{◌≡◌, ◌⊎◌, ℕ, ℤ, pos, ◌≤ℤ◌, List, Option, Some, None, option_map}
+use Rattle.std.specs.Prelude.{◌≡◌, ◌⊎◌, false, ℕ, ℤ, pos, ◌≤ℤ◌, List, Option, Some, None, option_map}
 use Rattle.std.specs.Io.KnownBytes.{Appends}
 use Rattle.plan_basics.specs.Minutes.{IsMoment}
 use Rattle.plan_basics.specs.Refusals.{IsLeastRefusal, NoneRefuses}
@@ -29,7 +29,7 @@ use Rattle.report_commands.specs.declared.prospects.Prospect.TheVariants as pros
 -- the text tells so of the night ahead, read off a forecast of this plan from a minute on, and up to that one, if one is asked for; of what is going it isn't known since when
 abbrev pub IsProspect : Prospect → Plan → ℕ → Option ℕ → List ℕ → Type 0
 IsProspect prospect.Forecast P from until text = IsForecastText P unknown from until text
-IsProspect prospect.Board P from until text = IsBoard P unknown from until text
+IsProspect prospect.Board P from until text = IsBoard P unknown from until (record { is_still = false; watch = None }) text
 
 -- a tick at this minute, be it one that a plan can name or not
 abbrev pub tick_at : ℤ → Request

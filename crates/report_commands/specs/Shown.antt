@@ -1,12 +1,14 @@
 -- What the program shows of a report, and of a show.
-use Rattle.std.specs.Prelude.{◌≡◌, ◌⊎◌, Bool, ℕ, List, Option, Some, Result, Ok, Err, codes}
+use Rattle.std.specs.Prelude.{◌≡◌, ◌⊎◌, Bool, ℕ, List, Option, Result, Ok, Err, codes}
 use Rattle.std.specs.Io.KnownBytes.{Appends}
 use Rattle.plan_basics.specs.KeyTexts.{IsOccurrenceText}
 use Rattle.plan_basics.specs.Keys.{IsOccurrenceKey}
+use Rattle.plan_basics.specs.Names.{IsName}
 use Rattle.plan_basics.specs.declared.Refusal.{Refusal}
 use Rattle.plan_records.specs.plan_model.specs.Plan.{Plan}
 use Rattle.plan_reports.specs.Reports.{IsErrorReport, IsLateReport, IsOccurrenceReport, IsOwed, IsReadyReport, IsWritten, desk_show_refusal_of, ready_refusal_of, refusal_of}
 use Rattle.plan_reports.specs.plan_shows.specs.Shows.{IsShow}
+use Rattle.plan_reports.specs.plan_shows.specs.Typed.{IsTypedOperation}
 use Rattle.plan_reports.specs.plan_shows.specs.declared.shows.Show.{Show}
 use Rattle.plan_reports.specs.plan_shows.specs.declared.shows.Show.TheVariants as show
 use Rattle.plan_records.specs.Step.{Receipts}
@@ -58,25 +60,28 @@ IsReportAsked word ws old new ending =
     × (((usable : Bool) × (P : Plan) × IsReportShown k usable P old new ending)
     ⊎ ((r : Refusal) × IsOpeningRefusal r × IsShown (refused r) old new ending))
 
--- a show is asked for by its word; that of an occurrence's operations by the key of one too
-abbrev pub AsksShow : List ℕ → Option (List ℕ) → Show → Type 0
-AsksShow word occ show.Started = word ≡ codes "started"
-AsksShow word occ (show.Operations c) = (word ≡ codes "operations") × ((text : List ℕ) × (occ ≡ Some text) × IsOccurrenceKey c × IsOccurrenceText text c)
-AsksShow word occ show.Resources = word ≡ codes "resources"
-AsksShow word occ show.Workstations = word ≡ codes "workstations"
-AsksShow word occ show.Trackers = word ≡ codes "trackers"
+-- a show is asked for by its word; that of an occurrence, of an operation or of a workstation by the text that is given for it too
+abbrev pub AsksShow : List ℕ → (List ℕ → List ℕ) → Show → Type 0
+AsksShow word given show.Started = word ≡ codes "started"
+AsksShow word given (show.Operations c) = (word ≡ codes "operations") × IsOccurrenceKey c × IsOccurrenceText (given (codes "occ")) c
+AsksShow word given show.Resources = word ≡ codes "resources"
+AsksShow word given show.Workstations = word ≡ codes "workstations"
+AsksShow word given show.Trackers = word ≡ codes "trackers"
+AsksShow word given (show.Dependencies c) = (word ≡ codes "dependencies") × IsOccurrenceKey c × IsOccurrenceText (given (codes "occ")) c
+AsksShow word given (show.Reach o) = (word ≡ codes "reach") × IsTypedOperation (given (codes "op")) o
+AsksShow word given (show.Intervals w) = (word ≡ codes "intervals") × IsName 4 w × (w ≡ given (codes "ws"))
 
 -- the words ask for no show
-abbrev pub AsksNoShow : List ℕ → Option (List ℕ) → Type 0
-AsksNoShow word occ = (s : Show) → ¬ AsksShow word occ s
+abbrev pub AsksNoShow : List ℕ → (List ℕ → List ℕ) → Type 0
+AsksNoShow word given = (s : Show) → ¬ AsksShow word given s
 
 -- a show was shown, or why it is refused
 abbrev pub IsShowShown : Show → Bool → Plan → Receipts → Option (List ℕ) → Option (List ℕ) → Ending → Type 0
 IsShowShown s usable P T = IsTold (desk_show_refusal_of usable s P) (IsShow s P T)
 
 -- the show that is asked for was shown, of some desk; or why none could be opened
-abbrev pub IsShowAsked : List ℕ → Option (List ℕ) → Option (List ℕ) → Option (List ℕ) → Ending → Type 0
-IsShowAsked word occ old new ending =
-    (s : Show) × AsksShow word occ s
+abbrev pub IsShowAsked : List ℕ → (List ℕ → List ℕ) → Option (List ℕ) → Option (List ℕ) → Ending → Type 0
+IsShowAsked word given old new ending =
+    (s : Show) × AsksShow word given s
     × (((usable : Bool) × (P : Plan) × (T : Receipts) × IsShowShown s usable P T old new ending)
     ⊎ ((r : Refusal) × IsOpeningRefusal r × IsShown (refused r) old new ending))

@@ -1,6 +1,5 @@
 -- What the program shows of why an operation doesn't go on.
 use Rattle.std.specs.Prelude.{◌≡◌, ◌⊎◌, Bool, true, ℕ, ℤ, pos, List, Option, Some}
-use Rattle.plan_basics.specs.KeyTexts.{IsOperationText}
 use Rattle.plan_basics.specs.Minutes.{IsMoment}
 use Rattle.plan_basics.specs.declared.Refusal.{Refusal}
 use Rattle.plan_basics.specs.declared.Refusal.TheVariants as refusal
@@ -12,6 +11,7 @@ use Rattle.plan_records.specs.Run.{State}
 use Rattle.command_desks.specs.Given.{minute_asked}
 use Rattle.command_desks.specs.desk_tables.specs.Faults.{IsOpeningRefusal}
 use Rattle.plan_reports.specs.Reports.{IsWhyReport, why_refusal_of}
+use Rattle.plan_reports.specs.plan_shows.specs.Typed.{IsTypedOperation}
 use Rattle.command_answers.specs.Answers.{IsShown}
 use Rattle.command_answers.specs.Given.{IsMinuteGiven}
 use Rattle.report_commands.specs.Shown.{IsTold}
@@ -43,5 +43,9 @@ IsWhyOfDesk o z old new ending =
 -- it was shown of the operation that the text names, at a desk that was there or at one of a plan's text
 abbrev pub IsWhyAsked : List ℕ → Option (List ℕ) → Option (List ℕ) → Option (List ℕ) → Ending → Type 0
 IsWhyAsked op at old new ending =
-    (o : OpKey) × IsOperationText op o × (z : Option ℤ) × IsMinuteGiven at z
+    (o : OpKey) × IsTypedOperation op o × (z : Option ℤ) × IsMinuteGiven at z
     × (IsWhyOfDesk o z old new ending ⊎ ((m : ℤ) × (z ≡ Some m) × (found : Option Contents) × IsWhyPlanned o m found old new ending))
+
+-- the text is no key of an operation
+abbrev pub IsNoTypedOperation : List ℕ → Type 0
+IsNoTypedOperation text = (o : OpKey) → ¬ IsTypedOperation text o

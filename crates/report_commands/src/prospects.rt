@@ -12,7 +12,7 @@ ghost use Rattle.command_answers.specs.declared.endings.Fault.{Fault};
 ghost use Rattle.report_commands.specs.Prospects.{IsProspect, IsProspectAsked, IsProspectOfDesk, IsProspectOfText, IsProspectPlanned, IsProspectShown, MayBeForetold, MayBeLast, tick_at};
 ghost use Rattle.command_desks.specs.Given.{IsNoDeskGiven, minute_asked};
 
-use board_pages::{KnownStarts, board_made, forecast_made};
+use board_pages::{KnownStarts, View, board_made, forecast_made};
 use clap::ArgMatches;
 use command_answers::{Ending, Fault, moment_if_given, plan_of_file, tell_no_desk, tell_refusal};
 use command_desks::{Database, Desk, Plan, close_desk, loaded_desk, minute_of, stored_desk};
@@ -60,9 +60,13 @@ fn text_between(
     ensures refused { IfErr result (λ r. (r ≡ Refusal.Memory) ⊎ Step plan.now.plan (tick_at (pos from)) (refused r) plan.now.plan) }
 {
     let known = KnownStarts::none(plan.alloc());
+    let view = View {
+        is_still: false,
+        watch: None,
+    };
     match prospect {
         Prospect::Forecast => forecast_made(plan, &known, from, until),
-        Prospect::Board => board_made(plan, &known, from, until),
+        Prospect::Board => board_made(plan, &known, from, until, &view),
     }
 }
 

@@ -4,20 +4,20 @@ ghost use Rattle.clap.specs.Matches.{first_value, found_of};
 ghost use Rattle.plan_basics.specs.Watched.{inner_of};
 ghost use Rattle.command_answers.specs.Statuses.{IsOfSurroundings};
 ghost use Rattle.command_desks.specs.Given.{IsNoDeskGiven, minute_asked};
-ghost use Rattle.report_commands.specs.Whys.{IsWhyAsked, IsWhyOfDesk, IsWhyOfText, IsWhyPlanned, IsWhyShown};
-ghost use Rattle.command_answers.specs.Given.{IsNoMinuteGiven, IsNoOperationText};
+ghost use Rattle.report_commands.specs.Whys.{IsNoTypedOperation, IsWhyAsked, IsWhyOfDesk, IsWhyOfText, IsWhyPlanned, IsWhyShown};
+ghost use Rattle.command_answers.specs.Given.{IsNoMinuteGiven};
+ghost use Rattle.plan_reports.specs.plan_shows.specs.Typed.{IsTypedOperation};
 ghost use Rattle.command_words.specs.Words.{text_given};
 ghost use Rattle.command_answers.specs.declared.endings.Fault.{Fault};
 
 use crate::reports::end_of;
 use clap::ArgMatches;
-use command_answers::{
-    Ending, Fault, moment_if_given, operation_of, plan_of_file, tell_no_desk, tell_refusal,
-};
+use command_answers::{Ending, Fault, moment_if_given, plan_of_file, tell_no_desk, tell_refusal};
 use command_desks::{Database, Desk, close_desk, loaded_desk, minute_of, stored_desk};
+use command_words::value_of;
 use plan_basics::{Moment, OpKey, Refusal, Watched};
 use plan_records::PlanDraft;
-use plan_reports::why_report;
+use plan_reports::{operation_typed, why_report};
 use sqlite::{Alter, Connection};
 use std::alloc::Global;
 use std::io::Write;
@@ -118,6 +118,17 @@ where
     }
 }
 
+// The operation that the words name. `Words` where the text is no key of an operation.
+fn operation_of(given: &ArgMatches) -> Result<OpKey, Fault>
+    ensures key { IfOk result (IsTypedOperation (text_given (found_of given.now) (codes "op"))) }
+    ensures fault { IfErr result (λ fault. (fault ≡ Fault.Words) × IsNoTypedOperation (text_given (found_of given.now) (codes "op"))) }
+{
+    match operation_typed(value_of(given, "op").as_bytes()) {
+        Some(key) => Ok(key),
+        None => Err(Fault::Words),
+    }
+}
+
 /// `why`: the words are judged before the files. A plan's text is loaded at the moment that is given; the database of a
 /// desk is closed at the end. `Words` where the words name no operation, or don't say at which desk.
 pub fn why<S: Alter + Drop, W: Write>(
@@ -128,7 +139,7 @@ pub fn why<S: Alter + Drop, W: Write>(
 where
     Connection<S>: Database<S>,
     ensures shown { IfOk result (IsWhyAsked (text_given (found_of given.now) (codes "op")) (first_value (found_of given.now) (codes "at")) (W.contents (inner_of out.old)) (W.contents (inner_of out.new))) }
-    ensures fault { IfErr result (λ fault. ((fault ≡ Fault.Words) × (IsNoOperationText (text_given (found_of given.now) (codes "op")) ⊎ IsNoDeskGiven (first_value (found_of given.now) (codes "db")) (first_value (found_of given.now) (codes "plan")) (first_value (found_of given.now) (codes "at")))) ⊎ (((fault ≡ Fault.Moment) × IsNoMinuteGiven (first_value (found_of given.now) (codes "at"))) ⊎ IsOfSurroundings fault)) }
+    ensures fault { IfErr result (λ fault. ((fault ≡ Fault.Words) × (IsNoTypedOperation (text_given (found_of given.now) (codes "op")) ⊎ IsNoDeskGiven (first_value (found_of given.now) (codes "db")) (first_value (found_of given.now) (codes "plan")) (first_value (found_of given.now) (codes "at")))) ⊎ (((fault ≡ Fault.Moment) × IsNoMinuteGiven (first_value (found_of given.now) (codes "at"))) ⊎ IsOfSurroundings fault)) }
 {
     let key = operation_of(given)?;
     let at = moment_if_given(given, "at")?;

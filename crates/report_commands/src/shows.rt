@@ -1,6 +1,6 @@
 // `show`: what the desk of a database's file has, for people.
 ghost use Rattle.std.specs.Prelude.{◌≡◌, ◌⊎◌, IfOk, IfErr, codes};
-ghost use Rattle.clap.specs.Matches.{first_value, found_of};
+ghost use Rattle.clap.specs.Matches.{found_of};
 ghost use Rattle.plan_basics.specs.Watched.{inner_of};
 ghost use Rattle.report_commands.specs.Shown.{AsksNoShow, AsksShow, IsShowAsked, IsShowShown};
 ghost use Rattle.command_answers.specs.Statuses.{IsOfSurroundings};
@@ -12,8 +12,8 @@ use clap::ArgMatches;
 use command_answers::{Ending, Fault, tell_no_desk};
 use command_desks::{Database, Desk, close_desk, stored_desk};
 use command_words::value_of;
-use plan_basics::{OccKey, Watched};
-use plan_reports::{Show, show_report};
+use plan_basics::{OccKey, Watched, WsName};
+use plan_reports::{Show, operation_typed, show_report};
 use sqlite::{Alter, Connection};
 use std::alloc::Global;
 use std::io::Write;
@@ -21,22 +21,52 @@ use std::rt::HostRuntime;
 
 // The show of the operations of the occurrence that the words name.
 fn operations_of(given: &ArgMatches) -> Result<Show, Fault>
-    ensures show { IfOk result (AsksShow (codes "operations") (first_value (found_of given.now) (codes "occ"))) }
-    ensures fault { IfErr result (λ fault. (fault ≡ Fault.Words) × AsksNoShow (codes "operations") (first_value (found_of given.now) (codes "occ"))) }
+    ensures show { IfOk result (AsksShow (codes "operations") (text_given (found_of given.now))) }
+    ensures fault { IfErr result (λ fault. (fault ≡ Fault.Words) × AsksNoShow (codes "operations") (text_given (found_of given.now))) }
 {
-    let Some(text) = given.get_str("occ") else {
-        return Err(Fault::Words);
-    };
-    match OccKey::from_text(text.as_bytes()) {
+    match OccKey::from_text(value_of(given, "occ").as_bytes()) {
         Some(occurrence) => Ok(Show::Operations(occurrence)),
         None => Err(Fault::Words),
     }
 }
 
-// The show that the words ask for. `Words` where that of an occurrence's operations lacks the key of one.
+// That of its dependencies.
+fn dependencies_of(given: &ArgMatches) -> Result<Show, Fault>
+    ensures show { IfOk result (AsksShow (codes "dependencies") (text_given (found_of given.now))) }
+    ensures fault { IfErr result (λ fault. (fault ≡ Fault.Words) × AsksNoShow (codes "dependencies") (text_given (found_of given.now))) }
+{
+    match OccKey::from_text(value_of(given, "occ").as_bytes()) {
+        Some(occurrence) => Ok(Show::Dependencies(occurrence)),
+        None => Err(Fault::Words),
+    }
+}
+
+// That of what a rerun of the operation that the words name reaches.
+fn reach_of(given: &ArgMatches) -> Result<Show, Fault>
+    ensures show { IfOk result (AsksShow (codes "reach") (text_given (found_of given.now))) }
+    ensures fault { IfErr result (λ fault. (fault ≡ Fault.Words) × AsksNoShow (codes "reach") (text_given (found_of given.now))) }
+{
+    match operation_typed(value_of(given, "op").as_bytes()) {
+        Some(key) => Ok(Show::Reach(key)),
+        None => Err(Fault::Words),
+    }
+}
+
+// That of the open intervals of the workstation that the words name.
+fn intervals_of(given: &ArgMatches) -> Result<Show, Fault>
+    ensures show { IfOk result (AsksShow (codes "intervals") (text_given (found_of given.now))) }
+    ensures fault { IfErr result (λ fault. (fault ≡ Fault.Words) × AsksNoShow (codes "intervals") (text_given (found_of given.now))) }
+{
+    match WsName::from_text(value_of(given, "ws").as_bytes()) {
+        Some(workstation) => Ok(Show::Intervals(workstation)),
+        None => Err(Fault::Words),
+    }
+}
+
+// The show that the words ask for. `Words` where it lacks the key or the name of what is to be shown.
 fn show_of(given: &ArgMatches) -> Result<Show, Fault>
-    ensures show { IfOk result (AsksShow (text_given (found_of given.now) (codes "kind")) (first_value (found_of given.now) (codes "occ"))) }
-    ensures fault { IfErr result (λ fault. (fault ≡ Fault.Words) × AsksNoShow (text_given (found_of given.now) (codes "kind")) (first_value (found_of given.now) (codes "occ"))) }
+    ensures show { IfOk result (AsksShow (text_given (found_of given.now) (codes "kind")) (text_given (found_of given.now))) }
+    ensures fault { IfErr result (λ fault. (fault ≡ Fault.Words) × AsksNoShow (text_given (found_of given.now) (codes "kind")) (text_given (found_of given.now))) }
 {
     match value_of(given, "kind") {
         "started" => Ok(Show::Started),
@@ -44,6 +74,9 @@ fn show_of(given: &ArgMatches) -> Result<Show, Fault>
         "resources" => Ok(Show::Resources),
         "workstations" => Ok(Show::Workstations),
         "trackers" => Ok(Show::Trackers),
+        "dependencies" => dependencies_of(given),
+        "reach" => reach_of(given),
+        "intervals" => intervals_of(given),
         _ => Err(Fault::Words),
     }
 }
@@ -88,8 +121,8 @@ pub fn show<S: Alter + Drop, W: Write>(
 ) -> Result<Ending, Fault>
 where
     Connection<S>: Database<S>,
-    ensures shown { IfOk result (IsShowAsked (text_given (found_of given.now) (codes "kind")) (first_value (found_of given.now) (codes "occ")) (W.contents (inner_of out.old)) (W.contents (inner_of out.new))) }
-    ensures fault { IfErr result (λ fault. ((fault ≡ Fault.Words) × AsksNoShow (text_given (found_of given.now) (codes "kind")) (first_value (found_of given.now) (codes "occ"))) ⊎ IsOfSurroundings fault) }
+    ensures shown { IfOk result (IsShowAsked (text_given (found_of given.now) (codes "kind")) (text_given (found_of given.now)) (W.contents (inner_of out.old)) (W.contents (inner_of out.new))) }
+    ensures fault { IfErr result (λ fault. ((fault ≡ Fault.Words) × AsksNoShow (text_given (found_of given.now) (codes "kind")) (text_given (found_of given.now))) ⊎ IsOfSurroundings fault) }
 {
     let wanted = show_of(given)?;
     match stored_desk::<S>(rt, value_of(given, "db")) {

@@ -46,7 +46,7 @@ pub enum Step {
 }
 
 /// What an answer's status tells of its request.
-#[derive(Clone, Copy, Debug, PartialEq, Eq)]
+#[derive(Clone, Copy)]
 pub enum Outcome {
     /// It was accepted.
     Accepted,

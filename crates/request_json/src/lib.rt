@@ -50,7 +50,7 @@ use serde_json::Value;
 use std::alloc::{AllocError, Global};
 
 /// Why an exchange with a client was broken off.
-#[derive(Clone, Copy, Debug, PartialEq, Eq)]
+#[derive(Clone, Copy)]
 pub enum WireFault {
     /// Memory lacked.
     Memory,

@@ -5,7 +5,7 @@ ghost use Rattle.serde_json.specs.Data.{array};
 ghost use Rattle.serde_json.specs.View.{view, items_of};
 ghost use Rattle.serde_json.specs.Written.{compact_text, items_have_float};
 
-use plan_basics::{Moment, OccKey, OpKey};
+use plan_basics::{Moment, NO_MOMENT, OccKey, OpKey};
 use serde_json::{Value, json};
 use status_rules::{OccStatus, Status};
 use std::alloc::{AllocError, Global};
@@ -100,7 +100,7 @@ fn minute_shown(alloc: Global, minute: i64) -> Result<String, AllocError>
 {
     match Moment::new(minute) {
         Some(moment) => format!(in alloc; "{moment}"),
-        None => String::from_str(alloc, "----------------"),
+        None => String::from_utf8_lossy(alloc, &NO_MOMENT),
     }
 }
 

@@ -14,7 +14,7 @@ pub use decoding::{decode, decode_all};
 pub use receipts::decode_receipts;
 
 /// One of the ten tables of a plan.
-#[derive(Clone, Copy, Debug, PartialEq, Eq)]
+#[derive(Clone, Copy)]
 pub enum Table {
     /// Whether a plan is loaded, and the clock.
     Meta,

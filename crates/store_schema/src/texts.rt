@@ -18,7 +18,7 @@
 // text, in the order of the columns. A text that reads gives the rowid and then the columns, by rising rowids.
 
 /// Which tables a database has.
-#[derive(Clone, Copy, Debug, PartialEq, Eq)]
+#[derive(Clone, Copy)]
 pub enum Version {
     /// The nine from `meta` to `receipt`.
     First,

@@ -1,5 +1,5 @@
 // Want of memory: calls without any, and calls that are made again and again while all memory is given back block by block.
-use std::test::Fail;
+use super::plan_plays::told;
 use test_nights::plans;
 
 #[test]
@@ -13,8 +13,8 @@ fn all_is_made_at_last(rt: HostRuntime) -> Result<(), &'static str> {
 }
 
 #[test]
-fn nights_in_want_of_memory(rt: HostRuntime) -> Result<(), Fail> {
-    Ok(plans::nights_in_want_of_memory(rt.alloc())?)
+fn nights_in_want_of_memory(rt: HostRuntime) -> Result<(), &'static str> {
+    told(plans::nights_in_want_of_memory(rt.alloc()))
 }
 
 #[test]

@@ -14,7 +14,7 @@ pub trait Player: Drop {
 }
 
 /// A night, and its line at which it goes otherwise than the line says.
-#[derive(Clone, Copy, Debug)]
+#[derive(Clone, Copy)]
 pub struct Deviation<'a> {
     pub night: &'a str,
     pub line: &'a str,

@@ -1,5 +1,5 @@
 -- How a request that is asked between two lines of the journal is left without a reply.
-use Rattle.std.proofs.Common.{◌≡◌, ◌⊎◌, refl, inl, inr, arith, ℕ, ◌≤◌, ◌++◌, List, [], Bool, Option, Result, Ok, Err, IfErr, IfOk, length, take, append-nil, subst, sym}
+use Rattle.std.proofs.Common.{◌≡◌, ◌⊎◌, refl, inl, inr, arith, ℕ, ◌++◌, List, [], Bool, Option, Result, Ok, Err, IfErr, IfOk, length, append-nil, subst, sym}
 use Rattle.std.specs.Io.KnownBytes.{Keeps, Appends}
 use Rattle.std.proofs.KnownBytes.{Appends-nil, Appends-kept, Keeps-refl}
 use Rattle.std.proofs.lemmas.Result.{IfErr-weaker, IfOk-weaker}
@@ -15,6 +15,7 @@ use Rattle.tracker_http.specs.declared.told.Told.{Told}
 use Rattle.desk_journal.specs.Journals.{Journals}
 use Rattle.desk_journal.specs.declared.journal.JournalFault.{JournalFault}
 use Rattle.desk_journal.specs.declared.journal.JournalFault.TheVariants as fault
+use Rattle.tracker_http.specs.Faulty.{IsReplyTo}
 use Rattle.tracker_http.specs.Journalled.{AskedBreaksOff, ReadBreaksOff, Writes}
 use Rattle.tracker_http.specs.Readings.{IsTurnedAway, ReadsFor}
 use Rattle.tracker_http.specs.Told.{reply_of}
@@ -65,12 +66,12 @@ module _ {S : Type 0} (g : Ghosts S) (ahead : Option ℕ) (bound : Bool) (a : As
 
   module _ (let_in : ¬ IsTurnedAway bound a r) (d e : DeskState S) (old new : Option (List ℕ)) (q : Result (Vec ℕ Global) ServeFault) where
     -- it is asked, and told
-    pub made_as_read : IfOk q (λ reply. (x : Told) × Takes g ahead a.asked d x e × (reply.items ≡ reply_of x) × Appends old new (request_lines d.plan r a ++ answer_lines a.asked x))
+    pub made_as_read : IfOk q (λ reply. (x : Told) × Takes g ahead a.asked d x e × IsReplyTo a.asked r x reply.items × Appends old new (request_lines d.plan r a ++ answer_lines a.asked x))
         → IfOk q (λ reply. (lines : List ℕ) × Writes g ahead bound a d reply.items lines e × Appends old new lines)
     made_as_read made =
-        IfOk-weaker q (λ reply. (x : Told) × Takes g ahead a.asked d x e × (reply.items ≡ reply_of x) × Appends old new (request_lines d.plan r a ++ answer_lines a.asked x))
+        IfOk-weaker q (λ reply. (x : Told) × Takes g ahead a.asked d x e × IsReplyTo a.asked r x reply.items × Appends old new (request_lines d.plan r a ++ answer_lines a.asked x))
         (λ reply. (lines : List ℕ) × Writes g ahead bound a d reply.items lines e × Appends old new lines)
-        (λ (reply : Vec ℕ Global) (h : (x : Told) × Takes g ahead a.asked d x e × (reply.items ≡ reply_of x) × Appends old new (request_lines d.plan r a ++ answer_lines a.asked x)).
+        (λ (reply : Vec ℕ Global) (h : (x : Told) × Takes g ahead a.asked d x e × IsReplyTo a.asked r x reply.items × Appends old new (request_lines d.plan r a ++ answer_lines a.asked x)).
         (request_lines d.plan r a ++ answer_lines a.asked h.0, (r, reads, inr (let_in, h.0, h.1, h.2, refl)), h.3)) made
 
     -- it is left without a reply

@@ -2,3 +2,4 @@ pub mod Ended
 mod Continuing
 mod Unguarded
 mod Breaking
+mod Faulted

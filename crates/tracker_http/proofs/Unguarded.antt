@@ -1,5 +1,5 @@
 -- Without a guard each request is told what it is told.
-use Rattle.std.proofs.Common.{◌≡◌, inl, inr, ℤ, None}
+use Rattle.std.proofs.Common.{inl, inr, ℤ, None}
 use Rattle.http_messages.specs.declared.asking.Asked.{Asked}
 use Rattle.http_messages.specs.declared.asking.Asked.TheVariants as asked
 use Rattle.plan_records.specs.Run.{plain}

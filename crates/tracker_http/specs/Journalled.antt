@@ -14,6 +14,7 @@ use Rattle.http_messages.specs.declared.asking.Asked.TheVariants as asked
 use Rattle.http_messages.specs.declared.statuses.Status.TheVariants as status
 use Rattle.http_messages.specs.declared.wanting.Asking.{Asking}
 use Rattle.tracker_http.specs.Exchange.{seen, StaysOpen}
+use Rattle.tracker_http.specs.Faulty.{IsReplyTo}
 use Rattle.tracker_http.specs.Guard.{TellsWithin}
 use Rattle.tracker_http.specs.Readings.{IsTurnedAway, ReadsFor, is_brief, requester_of}
 use Rattle.tracker_http.specs.Told.{body_of, reply_of, status_of}
@@ -51,11 +52,11 @@ answer_lines asked.Occurrences x = []
 abbrev pub Takes : {S : Type 0} → Ghosts S → Option ℕ → Asked → DeskState S → Told → DeskState S → Type 0
 Takes g ahead a d x e = TellsWithin ahead a (seen d) x (seen e) × StaysOpen (state g d.conn) (state g e.conn) x
 
--- what is written of a request that is wanted, and what the journal takes: it is turned away, and then nothing changes and no line is taken; or what the desk tells, and both lines
+-- what is written of a request that is wanted, and what the journal takes: it is turned away, and then nothing changes and no line is taken; or what the desk tells, also of what is wrong with an operator's body, and both lines
 abbrev pub Writes : {S : Type 0} → Ghosts S → Option ℕ → Bool → Asking → DeskState S → List ℕ → List ℕ → DeskState S → Type 0
 Writes g ahead bound a d output lines e = (r : Reading) × ReadsFor a.asked r × (
     (IsTurnedAway bound a r × (output ≡ reply_of (told.Fault status.Forbidden)) × (e ≡ d) × (lines ≡ []))
-    ⊎ ((¬ IsTurnedAway bound a r) × (x : Told) × Takes g ahead a.asked d x e × (output ≡ reply_of x) × (lines ≡ request_lines d.plan r a ++ answer_lines a.asked x)))
+    ⊎ ((¬ IsTurnedAway bound a r) × (x : Told) × Takes g ahead a.asked d x e × IsReplyTo a.asked r x output × (lines ≡ request_lines d.plan r a ++ answer_lines a.asked x)))
 
 -- a request that was read so has no reply: nothing was asked, and the journal has a beginning of its line at most; or it acted as it was told, and its line is whole
 abbrev pub ReadBreaksOff : {S : Type 0} → Ghosts S → Option ℕ → Asking → Reading → DeskState S → DeskState S → Option (List ℕ) → Option (List ℕ) → Type 0

@@ -8,4 +8,5 @@ pub mod Exchange
 pub mod Continuing
 pub mod Readings
 pub mod Guard
+pub mod Faulty
 pub mod Journalled

@@ -4,12 +4,14 @@ ghost use Rattle.std.specs.Io.KnownBytes.{Appends};
 ghost use Rattle.desk_journal.specs.Lines.{entries_of};
 ghost use Rattle.http_messages.specs.declared.statuses.Status.TheVariants as StatusValue;
 ghost use Rattle.tracker_http.specs.Readings.{ReadsFor};
+ghost use Rattle.tracker_http.specs.Faulty.{IsReplyTo};
 ghost use Rattle.tracker_http.specs.Told.{reply_of};
 ghost use Rattle.tracker_http.specs.declared.told.Told.{Told as ToldType};
 ghost use Rattle.tracker_http.specs.declared.told.Told.TheVariants as ToldValue;
 ghost use Rattle.tracker_http.specs.Continuing.{Continues};
 ghost use Rattle.tracker_http.specs.Journalled.{answer_lines, request_lines, AskedBreaksOff, ReadBreaksOff, Takes, Writes};
 
+use super::faulty::reply_to;
 use super::journalling::journalled;
 use super::reading::{Reading, is_turned_away, read_asked};
 use super::told::Told;
@@ -21,7 +23,7 @@ use std::alloc::{AllocError, Global};
 use std::io::Write;
 
 /// Why an exchange was broken off.
-#[derive(Clone, Copy, Debug, PartialEq, Eq)]
+#[derive(Clone, Copy)]
 pub enum ServeFault {
     /// Memory lacked.
     Memory,
@@ -72,20 +74,20 @@ fn read_reply<J: Write, S: Alter + Drop>(
     ahead: Option<u32>,
 ) -> Result<Vec<u8>, ServeFault>
     requires reading { ReadsFor asking.now.asked reading.now }
-    ensures made { IfOk result (λ reply. (x : ToldType) × Takes S.Store ahead asking.now.asked desk.old x desk.new × (reply.items ≡ reply_of x)
+    ensures made { IfOk result (λ reply. (x : ToldType) × Takes S.Store ahead asking.now.asked desk.old x desk.new × IsReplyTo asking.now.asked reading.now x reply.items
         × Appends (entries_of J.contents journal.old) (entries_of J.contents journal.new) (request_lines desk.old.plan reading.now asking.now ++ answer_lines asking.now.asked x)) }
     ensures broken { IfErr result (λ fault. ReadBreaksOff S.Store ahead asking.now reading.now desk.old desk.new (entries_of J.contents journal.old) (entries_of J.contents journal.new)) }
     ensures fault { IfErr result (λ fault. (fault ≡ ServeFault.Memory) ⊎ (fault ≡ ServeFault.Journal)) }
     ensures continues { Continues S.Store desk.old desk.new }
 {
     match journalled(alloc, journal, desk, asking, reading, ahead) {
-        Ok(told) => Ok(told.reply(alloc)?),
+        Ok(told) => Ok(reply_to(alloc, &asking.asked, reading, &told)?),
         Err(fault) => Err(fault_of(fault)),
     }
 }
 
 /// The reply to a request that is asked between two lines of the journal, where one is kept, within the clock's guard: its
-/// bytes tell what it is told (`made`). Where trackers are bound to their names, a report in another's is turned away: the desk
+/// bytes tell what it is told, and what is wrong with an operator's body that is no request (`made`). Where trackers are bound to their names, a report in another's is turned away: the desk
 /// isn't asked, and no line is taken. `Memory` for want of memory, `Journal` where the journal took no line: the request
 /// may have acted, but never before its line was taken (`broken`).
 pub fn asked_reply<J: Write, S: Alter + Drop>(

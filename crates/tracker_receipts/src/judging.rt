@@ -2,7 +2,7 @@
 use plan_basics::{OpKey, Refusal};
 
 /// What a tracker's request is told by its number and its text.
-#[derive(Clone, Copy, Debug, PartialEq, Eq)]
+#[derive(Clone, Copy)]
 pub enum Judged<'a> {
     /// It has the next number: it is a new request.
     New,

@@ -18,7 +18,7 @@ use std::alloc::{AllocError, Global};
 use std::marker::Model;
 
 /// A tracker's last accepted request: its number, its text, and the keys that its reply named.
-#[derive(Debug, Drop)]
+#[derive(Drop)]
 pub struct Receipt {
     number: u64,
     text: Vec<u8>,
@@ -89,7 +89,7 @@ impl Receipt {
 
 /// The last receipt of each tracker that has one. Contracts see it as the map from trackers to receipts, which is well
 /// formed. Room for the receipts of all trackers is taken when it is made, so that keeping one takes no memory.
-#[derive(Debug, Drop)]
+#[derive(Drop)]
 pub struct Receipts {
     // In order of the trackers.
     rows: Vec<(TrackerName, Receipt)>,

@@ -15,7 +15,7 @@ use std::alloc::{AllocError, Global};
 use std::marker::Model;
 
 /// A row of the table of receipts, with its columns as they are stored.
-#[derive(Debug, Drop)]
+#[derive(Drop)]
 pub struct ReceiptRow {
     tracker: Vec<u8>,
     number: i64,

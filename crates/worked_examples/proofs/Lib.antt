@@ -6,6 +6,7 @@ pub mod Moments
 pub mod Starts
 pub mod Steps
 pub mod NightStarts
+pub mod NightBegun
 pub mod NightStatuses
 pub mod NightReports
 pub mod NightRefusals

@@ -7,4 +7,5 @@ pub mod DayText
 pub mod Backup
 pub mod Tracker
 pub mod Stopped
+pub mod Begun
 pub mod Statements

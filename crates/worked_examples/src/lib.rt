@@ -14,6 +14,7 @@ ghost use Rattle.plan_records.specs.Answer.{refused, accepted};
 ghost use Rattle.plan_basics.specs.declared.Refusal.{Refusal};
 ghost use Rattle.status_rules.specs.declared.Status.{Status};
 ghost use Rattle.worked_examples.specs.Statements.{MomentsOfTheNight, LatestStartsOfTheNight, StatusesWhenLoaded, StatusesAfterTheThird, StatusesOfHeld, StatusesOfPassed, StartsWhileClosed, PairThatLeadsBack, DeletionWhileStarted, SecondLoad, ChoicesForTwoServers, ChoiceForFixedResource, TickThatNames, LatestStartsOfOverdueWork, KeptResource, LoadThatNames, LoadOfTheNight, EndOfTheSecond, RerunOfTheThird, RerunOfTheFirst, BackupAdded, DailyLeaves, NumberedRequest, NumberedAgain, RunToldTwice, TickTwice, EndTwice, ReportStopped, NoOtherIsFound, ReportActsOnce};
+ghost use Rattle.worked_examples.specs.Begun.{StartsThatCount, ThirdLastsAnHour};
 ghost use Rattle.worked_examples.specs.Day.{day, idle, loaded_at, first, second, evening};
 
 /// The first operation is arriving, the second waits for it.
@@ -57,6 +58,13 @@ pub fn statuses_of_the_night()
     ensures third_done { StatusesAfterTheThird }
     ensures held { StatusesOfHeld }
     ensures passed { StatusesOfPassed }
+{}
+
+/// PAYROLL's third lasts an hour in each forecast: from its reported start; where that isn't known, or it was only named, from the
+/// forecast's moment on. Where completion alone is reported a start counts from the not-before.
+pub fn starts_of_the_night()
+    ensures lasts { ThirdLastsAnHour }
+    ensures counts { StartsThatCount }
 {}
 
 /// A start is refused while no interval of the workstation contains the minute.

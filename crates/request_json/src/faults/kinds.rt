@@ -19,7 +19,7 @@ use serde_json::Value;
 use std::alloc::{AllocError, Global};
 
 /// A member of a request.
-#[derive(Clone, Copy, Debug, PartialEq, Eq)]
+#[derive(Clone, Copy)]
 pub enum MemberName {
     At,
     Do,
@@ -36,7 +36,7 @@ pub enum MemberName {
 }
 
 /// What kind of request it is, by the members that come with its `do`.
-#[derive(Clone, Copy, Debug, PartialEq, Eq)]
+#[derive(Clone, Copy)]
 pub enum RequestKind {
     /// None comes.
     Tick,

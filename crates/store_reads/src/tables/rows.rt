@@ -22,7 +22,7 @@ use std::alloc::Global;
 use store_schema::{ReceiptRow, Version};
 
 /// What the tables hold.
-#[derive(Debug, Drop)]
+#[derive(Drop)]
 pub struct StoredTables {
     /// Which tables there are.
     pub version: Version,

@@ -3,14 +3,14 @@
 use record_faults::Fault;
 
 /// What a text is to be: an addition is of one occurrence, an extension of any number.
-#[derive(Clone, Copy, Debug, PartialEq, Eq)]
+#[derive(Clone, Copy)]
 pub enum AddedText {
     Addition,
     Extension,
 }
 
 /// What is wrong with a record of what is added.
-#[derive(Clone, Copy, Debug, PartialEq, Eq)]
+#[derive(Clone, Copy)]
 pub enum AddedFault {
     /// What may be wrong with a plan's record too.
     OfRecord(Fault),
@@ -23,7 +23,7 @@ pub enum AddedFault {
 }
 
 /// A fault, and the place of its record: how many records are before it. That there is no occurrence stands after all.
-#[derive(Clone, Copy, Debug, PartialEq, Eq)]
+#[derive(Clone, Copy)]
 pub struct PlacedFault {
     pub place: usize,
     pub fault: AddedFault,

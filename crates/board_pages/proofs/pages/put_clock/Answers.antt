@@ -1,17 +1,18 @@
-use Rattle.std.proofs.Common.{◌++◌}
-use Rattle.board_pages.proofs.Bytes.{behind}
-use Rattle.board_pages.specs.Pages.{heading_parts, only, title_parts}
+use Rattle.std.proofs.Common.{◌≡◌, ◌++◌, ◌∷◌, [], List, ℕ, ℤ, subst, rules, to_z-of_z, SFits, w64}
+use Rattle.std.specs.Prelude.{OnOk, codes}
+use Rattle.board_pages.specs.Pieces.{Date, Hour, Markup, Part, bytes}
 use Rattle.board_pages.specs.declared.markup.TheConstants as markup
 use Rattle.board_pages.proofs.pages.put_clock.Goals as goal
 
+-- the clock by its minute, and what has the page loaded again
+abbrev clock_by : ℤ → List ℕ → List Part
+clock_by z again =
+    Markup markup.BEGINNING.now ∷ Markup again ∷ Markup (codes "<title>Board ") ∷ Hour z ∷ Markup (codes "</title>\n<style>\n")
+    ∷ Markup markup.STYLE.now ∷ Markup markup.STYLE_END.now ∷ Markup (codes "</style>\n</head>\n<body>\n<header>\n<h1><small>")
+    ∷ Date z ∷ Markup (codes "</small>") ∷ Hour z ∷ Markup (codes "</h1>\n") ∷ []
+
 pub returns : goal.returns
 returns c =
-    let page = c.args.page.now.items in
-    let beginning = only markup.BEGINNING.now in
-    let title = title_parts c.args.clock in
-    let style = only markup.STYLE.now in
-    let rest = only markup.STYLE_END.now in
-    let first = behind page beginning title c.in_ok-put_markup.ensures c.in_ok-put_title.ensures in
-    let second = behind page (beginning ++ title) style first c.in_ok-put_markup-2.ensures in
-    let third = behind page (beginning ++ title ++ style) rest second c.in_ok-put_markup-3.ensures in
-    behind page (beginning ++ title ++ style ++ rest) (heading_parts c.args.clock) third c.in_ok-put_heading.ensures
+    let fits : SFits w64 c.minute-minute.result = search rules in
+    let told = simp to_z-of_z at c.put.ensures in
+    subst (λ (parts : List Part). OnOk c.put.result (c.put.new.page.items ≡ c.args.page.now.items ++ bytes parts)) (λ i. clock_by (c.minute-minute.ensures.value i) (c.refresh.ensures i)) told

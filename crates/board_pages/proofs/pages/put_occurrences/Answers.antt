@@ -1,19 +1,16 @@
 use Rattle.std.proofs.Common.{◌++◌}
 use Rattle.board_pages.proofs.Bytes.{behind}
+use Rattle.std.specs.Prelude.{codes}
 use Rattle.board_pages.specs.Pages.{only, ticks_parts}
-use Rattle.board_pages.specs.Pieces.{list_parts}
 use Rattle.board_pages.specs.Rows.{occurrence_parts}
-use Rattle.board_pages.specs.declared.markup.TheConstants as markup
+use Rattle.board_pages.specs.Tables.{table_parts}
 use Rattle.board_pages.proofs.pages.put_occurrences.Goals as goal
 
 pub returns : goal.returns
 returns c =
     let page = c.args.page.now.items in
-    let x = c.args.told.now in
-    let head = only markup.OCCURRENCES.now in
-    let end = only markup.AXIS_END.now in
-    let rows = list_parts (occurrence_parts x) 200 c.args.occurrences.now in
-    let first = behind page head (ticks_parts x) c.in_ok-put_markup.ensures c.in_ok-put_ticks.ensures in
-    let second = behind page (head ++ ticks_parts x) end first c.in_ok-put_markup-2.ensures in
-    let third = behind page (head ++ ticks_parts x ++ end) rows second c.in_ok-put_list.ensures in
-    behind page (head ++ ticks_parts x ++ end ++ rows) (only markup.PART_END.now) third c.in_ok-put_markup-3.ensures
+    let p0 = only (codes "<section class=\"wide\"><h2>Occurrences <small>least time to spare first; an upright mark is a deadline</small></h2>\n<table><thead><tr><th scope=\"col\">Occurrence</th><th scope=\"col\" class=\"t\">") in
+    let p1 = ticks_parts c.args.told.now in
+    let p2 = table_parts (codes "</th><th scope=\"col\">Deadline</th><th scope=\"col\">Ends</th><th scope=\"col\">Spare</th></tr></thead><tbody>\n") (occurrence_parts c.args.told.now) 200 c.args.occurrences.now in
+    let t1 = behind page (p0) p1 c.in_ok-put_markup.ensures c.in_ok-put_ticks.ensures in
+    behind page (p0 ++ p1) p2 t1 c.in_ok-put_table.ensures

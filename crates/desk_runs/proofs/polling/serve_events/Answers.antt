@@ -1,7 +1,7 @@
-use Rattle.std.proofs.Common.{refl, rules}
+use Rattle.std.proofs.Common.{rules}
 use Rattle.desk_runs.proofs.Continuing.{continues_none, continues_on}
 use Rattle.desk_runs.proofs.Faults.{usable_before}
-use Rattle.desk_runs.proofs.Followed.{still_followed}
+use Rattle.desk_runs.proofs.Followed.{still_first, still_followed}
 use Rattle.desk_runs.proofs.polling.serve_events.Goals as goal
 
 pub loop-event-init : goal.loop-event-init
@@ -10,7 +10,7 @@ loop-event-init g c = record {
   is_finite = search rules;
   continues = continues_none g.S.Store c.args.desk.now;
   usable = λ was. was;
-  known = record { ahead = refl; bound = refl; going = c.requires.known };
+  known = still_first c.args.desk.now.plan c.args.terms.now c.requires.known;
 }
 
 pub loop-event-preserved : goal.loop-event-preserved
@@ -19,7 +19,7 @@ loop-event-preserved g c = record {
   is_finite = search rules;
   continues = continues_on g.S.Store c.args.desk.now c.loop-event.desk c.serve_event.new.desk c.loop-event.invariant.continues c.in_ok-told.ensures.continues;
   usable = λ was. c.in_ok-told.ensures.usable (c.loop-event.invariant.usable was);
-  known = still_followed c.loop-event.desk.plan c.serve_event.new.desk.plan c.args.terms.now c.loop-event.terms c.serve_event.new.terms c.loop-event.invariant.known c.in_ok-told.ensures.followed;
+  known = still_followed c.args.desk.now.plan c.loop-event.desk.plan c.serve_event.new.desk.plan c.args.terms.now c.loop-event.terms c.serve_event.new.terms c.loop-event.invariant.known c.in_ok-told.ensures.followed;
 }
 
 pub returns-in_err-told-clause-continues : goal.returns-in_err-told-clause-continues

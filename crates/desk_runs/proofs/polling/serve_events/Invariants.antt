@@ -9,5 +9,5 @@ invariant-loop-event g l = record {
   is_finite : (goal.iterator-loop-event g).is_finite l.event-iterator;
   continues : Continues g.S.Store l.fn.desk l.desk;
   usable : l.fn.desk.is_usable ≡ true → l.desk.is_usable ≡ true;
-  known : AreStillTermsOf l.desk.plan l.fn.terms l.terms;
+  known : AreStillTermsOf l.fn.desk.plan l.desk.plan l.fn.terms l.terms;
 }

@@ -7,5 +7,5 @@ abbrev pub invariant-loop : goal.invariant-loop
 invariant-loop g l = record {
   continues : Continues g.S.Store l.fn.desk l.desk;
   usable : l.fn.desk.is_usable ≡ true → l.desk.is_usable ≡ true;
-  known : AreStillTermsOf l.desk.plan l.fn.terms l.terms;
+  known : AreStillTermsOf l.fn.desk.plan l.desk.plan l.fn.terms l.terms;
 }

@@ -7,7 +7,7 @@ use Rattle.desk_serving.proofs.forecasts.board_ahead.Goals as goal
 
 pub returns-clause-page : goal.returns-clause-page
 returns-clause-page g c =
-    at_clock (λ P m. IsBoard P (since_in c.args.known.now) m None) _ c.args.desk.now.plan c.clock.result c.in_ok-plan.ensures.plan c.clock.ensures.value c.board_made.result c.board_made.ensures.page
+    at_clock (λ P m. IsBoard P (since_in c.args.known.now) m None c.args.view.now) _ c.args.desk.now.plan c.clock.result c.in_ok-plan.ensures.plan c.clock.ensures.value c.board_made.result c.board_made.ensures.page
 
 pub returns-clause-refused : goal.returns-clause-refused
 returns-clause-refused g c =

@@ -14,3 +14,12 @@ returns-in-ShowOperations g c = rw c.in-ShowOperations.is (rw c.deref-in-ShowOpe
 
 pub returns-in-StartedOn : goal.returns-in-StartedOn
 returns-in-StartedOn g c = rw c.in-StartedOn.is (rw c.deref-in-StartedOn.ensures.value at c.started_shown.ensures)
+
+pub returns-in-ShowDependencies : goal.returns-in-ShowDependencies
+returns-in-ShowDependencies g c = rw c.in-ShowDependencies.is (rw c.deref-in-ShowDependencies.ensures.value at c.dependencies_shown.ensures)
+
+pub returns-in-ShowReach : goal.returns-in-ShowReach
+returns-in-ShowReach g c = rw c.in-ShowReach.is (rw c.deref-in-ShowReach.ensures.value at c.reach_shown.ensures)
+
+pub returns-in-ShowIntervals : goal.returns-in-ShowIntervals
+returns-in-ShowIntervals g c = rw c.in-ShowIntervals.is (rw c.deref-in-ShowIntervals.ensures.value at c.intervals_shown.ensures)

@@ -3,7 +3,7 @@ use Rattle.http_messages.specs.Replies.{text_reply}
 use Rattle.plan_reports.specs.plan_shows.specs.Values.{health_data, started_refusal_of, IsStartedText}
 use Rattle.plan_reports.specs.Reports.{refusal_of, IsErrorReport, IsLateReport, IsOccurrenceReport}
 use Rattle.serde_json.specs.Written.{compact_text}
-use Rattle.desk_serving.specs.Shown.{owed_by, value_reply}
+use Rattle.desk_serving.specs.Shown.{owed_by, stood_in, value_reply}
 use Rattle.desk_serving.proofs.Owed.{shows_made}
 use Rattle.desk_serving.proofs.showing.page_shown.Goals as goal
 
@@ -39,5 +39,5 @@ pub returns-in-Health : goal.returns-in-Health
 returns-in-Health g c =
     let d = c.args.desk.now in
     rw c.in-Health.is
-    (shows_made value_reply (owed_by d.is_usable None) (λ (text : List ℕ). text ≡ compact_text (health_data d.plan)) c.health_made.result c.value_shown-in-Health.result
-    c.health_made.ensures.text c.health_made.ensures.none_owed c.health_made.ensures.refused c.value_shown-in-Health.ensures.shown c.value_shown-in-Health.ensures.memory)
+    (shows_made value_reply (owed_by d.is_usable None) (λ (text : List ℕ). text ≡ compact_text (health_data (stood_in c.args.terms.now.view.watch) d.plan)) c.health_made.result c.value_shown-in-Health.result
+    (rw c.stood_in.ensures at c.health_made.ensures.text) c.health_made.ensures.none_owed c.health_made.ensures.refused c.value_shown-in-Health.ensures.shown c.value_shown-in-Health.ensures.memory)

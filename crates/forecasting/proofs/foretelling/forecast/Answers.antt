@@ -4,8 +4,10 @@ use Rattle.forecasting.specs.InMemory.{IsInMemory, NoTimes}
 use Rattle.forecasting.proofs.First.{written}
 use Rattle.forecasting.proofs.foretelling.forecast.Goals as goal
 
-pub requests_from-requires-clause-since : goal.requests_from-requires-clause-since
-requests_from-requires-clause-since c = (since_in c.args.known.now, c.deref_mut.ensures.value ∙ c.in_ok-since.ensures)
+pub requests_from-requires-clause-begun : goal.requests_from-requires-clause-begun
+requests_from-requires-clause-begun c =
+    let step = c.in_ok-first.ensures.step in
+    (c.args.plan.now.plan, since_in c.args.known.now, step.0, c.deref_mut.ensures.value ∙ c.in_ok-since.ensures, step.1)
 
 pub requests_from-requires-clause-done : goal.requests_from-requires-clause-done
 requests_from-requires-clause-done c =

@@ -1,16 +1,16 @@
 use Rattle.std.proofs.Common.{◌≡◌, sym, subst, ◌<◌, ◌++◌, ℕ, List, length}
 use Rattle.std.specs.FinMap.{entries}
-use Rattle.plan_forecast.specs.Ahead.{Ahead, IsGoing, LeadsOn}
+use Rattle.plan_forecast.specs.Ahead.{Ahead, IsGoing, LeadsOn, counted_from}
 use Rattle.plan_records.specs.declared.Request.{Request}
 use Rattle.forecasting.specs.Following.{AreAll, AreGoingAmong, ArePlaces, AreSetAt}
 use Rattle.forecasting.specs.InMemory.{IsInMemory}
 use Rattle.forecasting.proofs.AfterRequest.{Completes}
-use Rattle.forecasting.proofs.First.{first_made, nothing_listed, times_size, whole}
+use Rattle.forecasting.proofs.First.{first_made, first_size, nothing_listed, whole}
 use Rattle.forecasting.proofs.Followed.{first_begun, first_ended, first_followed}
 use Rattle.forecasting.proofs.foretelling.requests_from.Goals as goal
 
 pub set_times-requires-clause-since : goal.set_times-requires-clause-since
-set_times-requires-clause-since c = times_size c.requires.since.0 (entries c.args.plan.now.plan.contents.operations) c.args.since.now c.requires.since.1
+set_times-requires-clause-since c = first_size c.requires.begun.0 c.args.plan.now.plan c.args.at c.requires.begun.2 c.requires.begun.4 c.args.since.now c.requires.begun.1 c.requires.begun.3
 
 pub set_times-requires-clause-done : goal.set_times-requires-clause-done
 set_times-requires-clause-done c = c.requires.done.size
@@ -41,11 +41,11 @@ go_on-requires-clause-ahead c =
     let ended = c.args.done.now in
     let begun' = c.set_times.new.since in
     let ended' = c.set_times.new.done in
-    let since : AreSetAt (IsGoing Q) c.args.at rows every begun begun' = subst (λ (xs : List ℕ). AreSetAt (IsGoing Q) c.args.at rows xs begun begun') c.deref.ensures.value c.set_times.ensures.since in
-    let done : AreSetAt (Completes Q) c.args.at rows every ended ended' = subst (λ (xs : List ℕ). AreSetAt (Completes Q) c.args.at rows xs ended ended') c.deref.ensures.value c.set_times.ensures.done in
+    let since : AreSetAt (IsGoing Q) (counted_from Q c.args.at) rows every begun begun' = subst (λ (xs : List ℕ). AreSetAt (IsGoing Q) (counted_from Q c.args.at) rows xs begun begun') c.deref.ensures.value c.set_times.ensures.since in
+    let done : AreSetAt (Completes Q) (λ o. c.args.at) rows every ended ended' = subst (λ (xs : List ℕ). AreSetAt (Completes Q) (λ o. c.args.at) rows xs ended ended') c.deref.ensures.value c.set_times.ensures.done in
     let moved = first_begun Q every all valid c.args.at begun begun' ended ended' since done in
     let completed = first_ended Q every all valid c.args.at begun begun' ended ended' since done in
-    let mid = first_made c.requires.step.0 c.args.plan.now.plan c.args.at c.requires.step.1 c.requires.step.2 begun ended begun' ended' c.requires.since.0 c.requires.since.1 c.requires.done
+    let mid = first_made c.requires.begun.0 c.args.plan.now.plan c.args.at c.requires.begun.2 c.requires.begun.4 begun ended begun' ended' c.requires.begun.1 c.requires.begun.3 c.requires.done
     c.set_times.ensures.since_size c.set_times.ensures.done_size moved completed in
     (mid.0, mid.2)
 
@@ -60,12 +60,12 @@ go_on-requires-clause-followed c =
     let ended = c.args.done.now in
     let begun' = c.set_times.new.since in
     let ended' = c.set_times.new.done in
-    let since : AreSetAt (IsGoing Q) c.args.at rows every begun begun' = subst (λ (xs : List ℕ). AreSetAt (IsGoing Q) c.args.at rows xs begun begun') c.deref.ensures.value c.set_times.ensures.since in
-    let done : AreSetAt (Completes Q) c.args.at rows every ended ended' = subst (λ (xs : List ℕ). AreSetAt (Completes Q) c.args.at rows xs ended ended') c.deref.ensures.value c.set_times.ensures.done in
+    let since : AreSetAt (IsGoing Q) (counted_from Q c.args.at) rows every begun begun' = subst (λ (xs : List ℕ). AreSetAt (IsGoing Q) (counted_from Q c.args.at) rows xs begun begun') c.deref.ensures.value c.set_times.ensures.since in
+    let done : AreSetAt (Completes Q) (λ o. c.args.at) rows every ended ended' = subst (λ (xs : List ℕ). AreSetAt (Completes Q) (λ o. c.args.at) rows xs ended ended') c.deref.ensures.value c.set_times.ensures.done in
     let going = c.new-going.result.items in
     let next = c.follow_going.new.going.items in
     let among : AreGoingAmong Q going every next = subst (λ (xs : List ℕ). AreGoingAmong Q going xs next) c.deref-2.ensures.value c.in_ok-follow_going.ensures in
-    first_followed Q every all valid c.args.at begun begun' ended ended' since done going next (times_size c.requires.since.0 rows begun c.requires.since.1) c.requires.done.size among
+    first_followed Q every all valid c.args.at begun begun' ended ended' since done going next (first_size c.requires.begun.0 c.args.plan.now.plan c.args.at c.requires.begun.2 c.requires.begun.4 begun c.requires.begun.1 c.requires.begun.3) c.requires.done.size among
 
 pub go_on-requires-clause-lasting : goal.go_on-requires-clause-lasting
 go_on-requires-clause-lasting c = c.in_ok-horizon.ensures.lasting
@@ -81,8 +81,8 @@ returns-clause-made c = λ P known chosen is step.
     let ended = c.args.done.now in
     let begun' = c.set_times.new.since in
     let ended' = c.set_times.new.done in
-    let since : AreSetAt (IsGoing Q) c.args.at rows every begun begun' = subst (λ (xs : List ℕ). AreSetAt (IsGoing Q) c.args.at rows xs begun begun') c.deref.ensures.value c.set_times.ensures.since in
-    let done : AreSetAt (Completes Q) c.args.at rows every ended ended' = subst (λ (xs : List ℕ). AreSetAt (Completes Q) c.args.at rows xs ended ended') c.deref.ensures.value c.set_times.ensures.done in
+    let since : AreSetAt (IsGoing Q) (counted_from Q c.args.at) rows every begun begun' = subst (λ (xs : List ℕ). AreSetAt (IsGoing Q) (counted_from Q c.args.at) rows xs begun begun') c.deref.ensures.value c.set_times.ensures.since in
+    let done : AreSetAt (Completes Q) (λ o. c.args.at) rows every ended ended' = subst (λ (xs : List ℕ). AreSetAt (Completes Q) (λ o. c.args.at) rows xs ended ended') c.deref.ensures.value c.set_times.ensures.done in
     let moved = first_begun Q every all valid c.args.at begun begun' ended ended' since done in
     let completed = first_ended Q every all valid c.args.at begun begun' ended ended' since done in
     let last = c.go_on.new.plan.plan in

@@ -4,7 +4,7 @@ use Rattle.derived_figures.specs.plan_laws.proofs.Standing.{status_told}
 use Rattle.plan_basics.specs.declared.keys.OpKey.{OpKey}
 use Rattle.plan_model.specs.Plan.{Plan}
 use Rattle.status_rules.specs.declared.Status.TheVariants.{Complete}
-use Rattle.plan_forecast.specs.Ahead.{IsGoing}
+use Rattle.plan_forecast.specs.Ahead.{IsGoing, counted_from}
 use Rattle.plan_forecast.proofs.Made.{going_told}
 use Rattle.forecasting.specs.Following.{AreChangedPlaces, AreGoingAmong, ArePlaces}
 use Rattle.forecasting.specs.Turns.{IsFirstWork}
@@ -85,8 +85,8 @@ returns-clause-made c = λ s until ahead is.
     let ended = time_or_place P Q like places Completes changed.complete c.args.done.now c.requires.followed.ended in
     goes_on s until c.args.work.at c.args.plan.now.plan c.carry_out.new.plan.plan c.request_of-request.result c.args.since.now c.args.done.now ahead first c.request_of-request.ensures.at step.0 step.1
     c.set_times.new.since c.set_times.new.done c.set_times.ensures.since_size c.set_times.ensures.done_size
-    (moves (IsGoing Q) c.args.work.at (entries Q.operations) places c.args.since.now c.set_times.new.since c.set_times.ensures.since begun (going_told Q c.read_for_proof.ensures.contents.valid.acyclic))
-    (moves (Completes Q) c.args.work.at (entries Q.operations) places c.args.done.now c.set_times.new.done c.set_times.ensures.done ended (λ (o : OpKey). status_told Q c.read_for_proof.ensures.contents.valid.acyclic o Complete))
+    (moves (IsGoing Q) (counted_from Q c.args.work.at) (entries Q.operations) places c.args.since.now c.set_times.new.since c.set_times.ensures.since begun (going_told Q c.read_for_proof.ensures.contents.valid.acyclic))
+    (moves (Completes Q) (λ o. c.args.work.at) (entries Q.operations) places c.args.done.now c.set_times.new.done c.set_times.ensures.done ended (λ (o : OpKey). status_told Q c.read_for_proof.ensures.contents.valid.acyclic o Complete))
 
 pub returns-clause-followed : goal.returns-clause-followed
 returns-clause-followed c =
@@ -105,8 +105,8 @@ returns-clause-followed c =
     record {
       going = still_going P Q like places c.args.going.now.items c.follow_going.new.going.items changed.going c.requires.followed.going
           (subst (λ (xs : List ℕ). AreGoingAmong Q c.args.going.now.items xs c.follow_going.new.going.items) (c.deref-2.ensures.value ∙ sym c.deref.ensures.value) c.in_ok-follow_going.ensures);
-      begun = have_times (IsGoing Q) c.args.work.at (entries Q.operations) places c.args.since.now c.set_times.new.since c.set_times.ensures.since begun (ahead.begun_size ∙ sym like.count);
-      ended = have_times (Completes Q) c.args.work.at (entries Q.operations) places c.args.done.now c.set_times.new.done c.set_times.ensures.done ended (ahead.ended_size ∙ sym like.count);
+      begun = have_times (IsGoing Q) (counted_from Q c.args.work.at) (entries Q.operations) places c.args.since.now c.set_times.new.since c.set_times.ensures.since begun (ahead.begun_size ∙ sym like.count);
+      ended = have_times (Completes Q) (λ o. c.args.work.at) (entries Q.operations) places c.args.done.now c.set_times.new.done c.set_times.ensures.done ended (ahead.ended_size ∙ sym like.count);
     }
 
 pub returns-clause-like : goal.returns-clause-like

@@ -1,12 +1,12 @@
 use Rattle.std.proofs.Common.{◌≡◌, sym, ◌∙◌, ap, arith, ◌<◌, ◌≤◌, Some, get_or, length, slice_get}
 use Rattle.std.proofs.lemmas.Option.{slice_get-get_or}
 use Rattle.std.specs.FinMap.{entries}
-use Rattle.plan_forecast.specs.Ahead.{IsGoing}
+use Rattle.plan_forecast.specs.Ahead.{IsGoing, counted_from}
 use Rattle.forecasting.proofs.TimesSet.{set_all, set_first, set_next}
 use Rattle.forecasting.proofs.timing.set_since.Goals as goal
 
 pub loop-place-init : goal.loop-place-init
-loop-place-init c = let P = c.args.loaded.now in set_first (IsGoing P) c.args.at (entries P.operations) c.args.places.now c.args.since.now
+loop-place-init c = let P = c.args.loaded.now in set_first (IsGoing P) (counted_from P c.args.at) (entries P.operations) c.args.places.now c.args.since.now
 
 pub loop-place-preserved : goal.loop-place-preserved
 loop-place-preserved c =
@@ -20,7 +20,7 @@ loop-place-preserved c =
     let within : p < length (entries P.operations) = c.requires.within n 0 c.loop-place-test.true in
     let room : p < length xs = (let size = c.requires.size in let kept = c.loop-place.invariant.size in omega (arith, within, size, kept)) in
     let at_old : slice_get xs p ≡ Some old = slice_get-get_or xs p old room ∙ ap Some (sym c.index-since-place.is) in
-    set_next (IsGoing P) c.args.at (entries P.operations) places c.args.since.now xs n p old c.time_at.result c.loop-place.invariant listed room at_old c.time_at.ensures
+    set_next (IsGoing P) (counted_from P c.args.at) (entries P.operations) places c.args.since.now xs n p old c.time_at.result c.loop-place.invariant listed room at_old c.time_at.ensures
 
 pub returns-clause-size : goal.returns-clause-size
 returns-clause-size c = c.loop-place.invariant.size
@@ -30,4 +30,4 @@ returns-clause-times c =
     let P = c.args.loaded.now in
     let past = c.loop-place-test.false in
     let enough : length c.args.places.now ≤ c.loop-place.place-index = omega (arith, past) in
-    set_all (IsGoing P) c.args.at (entries P.operations) c.args.places.now c.args.since.now c.loop-place.since c.loop-place.place-index enough c.loop-place.invariant
+    set_all (IsGoing P) (counted_from P c.args.at) (entries P.operations) c.args.places.now c.args.since.now c.loop-place.since c.loop-place.place-index enough c.loop-place.invariant

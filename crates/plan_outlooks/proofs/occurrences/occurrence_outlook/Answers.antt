@@ -1,9 +1,9 @@
-use Rattle.std.proofs.Common.{rules, arith, w64, FitsSigned, to_z, of_z, ◌≡◌, refl, sym, ◌∙◌, ap, subst, true, true≢false, ℤ, is_some}
+use Rattle.std.proofs.Common.{rules, arith, w64, FitsSigned, to_z, of_z, ◌≡◌, refl, sym, ◌∙◌, ap, subst, true, true≢false, ℤ, pos, is_some, Some}
 use Rattle.std.proofs.lemmas.Int.{ints}
 use Rattle.std.specs.FinMap.{contains_key, entries, get}
 use Rattle.plan_model.specs.Contents.{Contents}
 use Rattle.plan_model.specs.Status.{HasOccurrenceStatus}
-use Rattle.plan_outlooks.specs.Forecasts.{IsLateBy}
+use Rattle.plan_outlooks.specs.Forecasts.{IsLateBy, minute_or}
 use Rattle.plan_outlooks.proofs.OccurrenceMade.{found_among, occurrence_by}
 use Rattle.plan_outlooks.proofs.occurrences.occurrence_outlook.Goals as goal
 
@@ -50,7 +50,8 @@ returns c = λ F lent.
         is_in_plan = there;
         status = has;
         ending = c.ending_of-ending.ensures F k lent are known;
-        late = subst (λ (z : ℤ). IsLateBy c.ending_of-ending.result z c.late_by-late.result) (back ∙ c.minute.ensures.value) c.late_by-late.ensures;
+        late = subst (λ m. IsLateBy (Some m) (pos c.args.occurrence.now.deadline) c.late_by-late.result) (c.moment_or-told.ensures ∙ ap (λ m. minute_or m c.ending_of-ending.result) lent.to)
+            (subst (λ (z : ℤ). IsLateBy (Some c.moment_or-told.result) z c.late_by-late.result) (back ∙ c.minute.ensures.value) c.late_by-late.ensures);
         never = c.never_of.ensures F k lent are;
       },
     )

@@ -7,7 +7,7 @@ use Rattle.plan_outlooks.proofs.paths.cause_at.Goals as goal
 
 pub returns-in-Some : goal.returns-in-Some
 returns-in-Some c = λ F o lent at told.
-    by_after F o c.args.moment (λ going. true≢false (sym (told.1 going) ∙ c.if-is_going.false))
+    by_after F o c.args.moment c.args.lack.now (λ going. true≢false (sym (told.1 going) ∙ c.if-is_going.false))
     (λ e. other_by c.args.moment c.args.refs.now.from c.eq.result c.eq.ensures c.if-eq.false (e ∙ sym lent.from))
     c.in-Some.other (subst (IsFirstIn F (IsAwaited F o c.args.moment)) c.in-Some.is (c.awaited.ensures F o lent at))
 

@@ -7,4 +7,4 @@ use Rattle.plan_outlooks.proofs.paths.path_to.Given as goal
 
 -- the path so far
 abbrev pub invariant-loop : goal.invariant-loop
-invariant-loop l = (F : Forecast) (o : OpKey) → IsLent F l.refs → IsOfRow F l.last o → EndsAt F l.fn.ending o → PathUpTo F o l.counter l.path.items l.next l.until
+invariant-loop l = (F : Forecast) (o : OpKey) → IsLent F l.refs → IsOfRow F l.last o → EndsAt F l.fn.ending o → PathUpTo F l.late o l.counter l.path.items l.next l.until

@@ -1,4 +1,4 @@
-use Rattle.std.proofs.Common.{rules, ◌≡◌, sym, ◌∙◌, subst, arith, true≢false, w64, FitsSigned, to_z, of_z}
+use Rattle.std.proofs.Common.{rules, ◌≡◌, sym, ◌∙◌, ap, subst, arith, true≢false, w64, FitsSigned, to_z, of_z}
 use Rattle.std.proofs.lemmas.Int.{ints}
 use Rattle.std.specs.FinMap.{entries}
 use Rattle.plan_basics.specs.declared.keys.OpKey.{OpKey}
@@ -6,6 +6,8 @@ use Rattle.plan_model.specs.Starts.{IsLatestStart}
 use Rattle.plan_reasons.specs.Places.{IsAt}
 use Rattle.plan_reasons.specs.Whys.{IsFirstReason}
 use Rattle.plan_reasons.specs.plan_drafts.proofs.RowPlaces.{row_at}
+use Rattle.plan_model.specs.Contents.{Operation}
+use Rattle.plan_outlooks.specs.Standstills.{standing_by}
 use Rattle.plan_outlooks.proofs.OperationRows.{at_last, at_plan}
 use Rattle.plan_outlooks.proofs.StandstillMade.{standstill_made}
 use Rattle.plan_outlooks.proofs.standstills.standstill.Goals as goal
@@ -42,6 +44,6 @@ returns-clause-told c = λ F o lent at.
     let latest = subst (IsLatestStart x.plan.now o) (sym back) (c.latest_at.ensures o at.0 (at_plan F x lent c.args.place o at)) in (
       key,
       (c.never_begins.ensures F o lent at).0 c.if-not-never_begins.false,
-      standstill_made F x lent o _ key c.reported_at-reported.result.operation.now is.operation is.status c.asked_at-at.ensures
-          (subst (λ (k : OpKey). IsFirstReason x.last.now k c.asked_at-at.result c.in_ok-reason.reason) key c.in_ok-reason.ensures.reason) latest,
+      standstill_made F x lent o _ key c.reported_at-reported.result.operation.now is.operation is.status c.asked_at-at.ensures (ap (λ (z : Operation). z.workstation) c.operation.view_is) is.attribute c.in_ok-reason.reason
+          (subst (λ (k : OpKey). IsFirstReason x.last.now k c.asked_at-at.result c.in_ok-reason.reason) key c.in_ok-reason.ensures.reason) (c.standing_by.ensures ∙ ap (λ (z : Operation). standing_by z.mark c.in_ok-reason.reason) c.operation.view_is) latest,
     )

@@ -5,7 +5,7 @@ use Rattle.forecasting.proofs.Kept.{kept_all, kept_first, kept_next}
 use Rattle.forecasting.proofs.known.KnownStarts.followed_in.Goals as goal
 
 pub loop-place-init : goal.loop-place-init
-loop-place-init c = kept_first c.args.loaded.now c.args.self.now c.args.fresh.now c.none-next.result c.none-next.ensures
+loop-place-init c = kept_first c.args.loaded.now c.args.self.now c.args.fresh.now c.empty-next.result c.empty-next.ensures.entries c.empty-next.ensures.follows
 
 pub loop-place-preserved : goal.loop-place-preserved
 loop-place-preserved c =

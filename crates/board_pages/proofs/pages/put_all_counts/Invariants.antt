@@ -1,0 +1,12 @@
+use Rattle.std.proofs.Common.{◌≡◌, ◌++◌, drop, List}
+use Rattle.std.specs.Prelude.{flat_map}
+use Rattle.board_pages.specs.Pages.{count_parts}
+use Rattle.board_pages.specs.Pieces.{Part, bytes}
+use Rattle.board_pages.specs.declared.pages.Count.{Count}
+use Rattle.board_pages.proofs.pages.put_all_counts.Given as goal
+
+abbrev pub parts_of : Count → List Part
+parts_of r = count_parts r.is_alarm r.count r.words.now
+
+abbrev pub invariant-loop-count : goal.invariant-loop-count
+invariant-loop-count l = l.page.items ++ bytes (flat_map parts_of (drop l.count-index l.counts)) ≡ l.fn.page.items ++ bytes (flat_map parts_of l.counts)
