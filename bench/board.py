@@ -35,7 +35,7 @@ def made_page(command):
 def faults_of(page):
     """What a page of the board never has: a script, or anything from outside. Its paths lead to looks of the same desk."""
     words = (b"<script", b"http:", b"https:", b"src=", b"url(", b"@import")
-    outside = re.findall(rb'href="(?!/(?:why|show)/)[^"]*"', page)
+    outside = re.findall(rb'href="(?!/board|/page/(?:why|show)/)[^"]*"', page)
     return [word.decode() for word in (*words, *outside) if word in page.lower() or word in outside]
 
 

@@ -23,7 +23,7 @@ MOMENT = "2024-03-01T22:00"
 FULL, HALF = 20_000, 10_000
 MOST_SECONDS = 1.0        # for the full plan
 MOST_MEGABYTES = 400      # for the full plan
-MOST_TIMES_NINJA = 4.0    # for the full plan
+MOST_TIMES_NINJA = 1.1    # for the full plan, where ninja has built nothing
 MOST_GROWTH = 2.4         # from the half plan to the full one
 
 

@@ -13,15 +13,20 @@ with `#` is a comment. A block is one of these:
     LATE AT 2024-03-01T21:00
     END 0
 
-    GET /forecast                        it is told lines that begin so, among others
-    lines
+    GET /forecast                        it is told lines that begin so, among others, and none that begins as what
+    lines                                stands behind `! `
     HTTP/1.1 200 OK
+    ! LATE PATHS
 
     cut POST /operator {"at":".."}       the client sends the beginnings of this, each a byte longer, all but the whole.
     400 Bad Request | 13                 It is told so where it then ends its side; once more, it goes away there
     {"error":400}
 
     gone POST /operator {"at":".."}      the client goes away once it has sent this
+
+    once POST /operator {"at":".."}      it is told so, and the journal's file was opened once for it
+    200 OK | 12
+    {"named":[]}
 
     PAYROLL/2024-03-01T22:00/005 none A  the operation's mark and status in the tables, or `-` where it isn't there
 
@@ -30,6 +35,9 @@ with `#` is a comment. A block is one of these:
 
     moved                                the journal's file gets another name: what follows stands in a new one
 
+    damaged                              somebody adds these lines to the journal
+    no line of a journal
+
     anew                                 the desk is ended, and started again over its database
 
 What is sent is a request, `GET PATH` or `POST PATH BODY`, or, behind `sent`, bytes as they are: there `~` ends a line of a
@@ -37,10 +45,12 @@ head. `^` stands behind the bytes that suffice: in pieces of 8192, 64, 7, 2 and 
 told the same and let go; and once more, where all are sent at once. `<3 ab>` stands for `ababab`, and `<night.csv>` for the
 text of this file, as JSON writes it."""
 import contextlib
+import ctypes
 import datetime
 import difflib
 import itertools
 import json
+import os
 import re
 import shutil
 import signal
@@ -53,7 +63,7 @@ from . import common
 COMMANDS = {"serve": ["serve", "--db", "night.db", "--requests", "1000000"],
             "desk": ["desk", "--db", "night.db", "--journal", "night.journal"],
             "desk --bound": ["desk", "--db", "night.db", "--bound", "--journal", "night.journal"]}
-SENT = re.compile(r"(cut |gone |)((?:GET|POST|sent) .*)")
+SENT = re.compile(r"(cut |gone |once |)((?:GET|POST|sent) .*)")
 STANDS = re.compile(r"(\w+)/(\d{4}-\d\d-\d\dT\d\d:\d\d)/(\d{3}) (.*)")
 SHORT = re.compile(r"<(\d+) ([^>]*)>|<([a-z_]+\.csv)>")
 PIECES = (8192, 64, 7, 2, 1)
@@ -63,6 +73,8 @@ JSON = re.compile(r"HTTP/1\.1 ([^\r\n]*)\r\nContent-Type: application/json\r\nCo
 TEXT = "HTTP/1.1 200 OK\r\nContent-Type: text/plain; charset=utf-8\r\nContent-Length: {}\r\nConnection: close"
 GONE = struct.pack("ii", 1, 0)      # a socket that lingers so for no time is reset when it is closed
 FIRST = datetime.datetime(1972, 1, 1)
+IN_CLOSE_WRITE, IN_OPEN = 0x08, 0x20
+EVENT = struct.Struct("iIII")
 
 
 def talks_of(path):
@@ -128,6 +140,20 @@ def standing(folder, app, arrival, number):
     return " ".join(row) if row else "-"
 
 
+def times_opened(file, act):
+    """How often a file is opened while this is done, as the system tells; its ends are told too, so that no two are told as one."""
+    system = ctypes.CDLL(None)
+    events = system.inotify_init1(os.O_NONBLOCK)
+    try:
+        system.inotify_add_watch(events, os.fsencode(file), IN_OPEN | IN_CLOSE_WRITE)
+        act()
+        with contextlib.suppress(BlockingIOError):
+            return sum(mask == IN_OPEN for _, mask, _, _ in EVENT.iter_unpack(os.read(events, 65536)))
+        return 0
+    finally:
+        os.close(events)
+
+
 class Talk:
     """A talk that is played: its desk, over the database of a folder, and the lines that went otherwise."""
 
@@ -182,7 +208,7 @@ class Talk:
         sent, stands = SENT.fullmatch(first.text), STANDS.fullmatch(first.text)
         if sent:
             front, behind = parts_of(sent[2], self.path.parent)
-            play = {"": self.exchange, "cut ": self.cut, "gone ": self.gone}[sent[1]]
+            play = {"": self.exchange, "cut ": self.cut, "gone ": self.gone, "once ": self.once}[sent[1]]
             play(first, front, behind, told)
         elif stands:
             there = standing(self.folder, *stands.groups()[:3])
@@ -193,6 +219,9 @@ class Talk:
             self.compare(wanted, self.entries()[-len(told):], block[-1])
         elif first.text == "moved":
             (self.folder / "night.journal").rename(self.folder / "moved.journal")
+        elif first.text == "damaged":
+            with open(self.folder / "night.journal", "a") as journal:
+                journal.writelines(line.text + "\n" for line in told)
         elif first.text == "anew":
             self.end()
             self.begin()
@@ -221,11 +250,15 @@ class Talk:
         if told[0].text != "lines":
             return self.compare(told, told_of(reply), told[-1])
         came = reply.decode(errors="backslashreplace").splitlines()
-        missing = [line for line in told[1:] if not any(text.startswith(line.text) for text in came)]
+        wanted = [line for line in told[1:] if not line.text.startswith("! ")]
+        missing = [line for line in wanted if not any(text.startswith(line.text) for text in came)]
         for line in missing:
             nearest = difflib.get_close_matches(line.text, came, 1, 0)
             self.fail(line, f"a line that begins {line.text!r}", repr(nearest[0]) if nearest else "nothing")
-        return not missing
+        others = [line for line in told[1:] if line not in wanted and any(text.startswith(line.text[2:]) for text in came)]
+        for line in others:
+            self.fail(line, f"no line that begins {line.text[2:]!r}", "one")
+        return not missing and not others
 
     def exchange(self, first, front, behind, told):
         """Bytes are sent, and told so; where some come behind those that suffice, in pieces of whatever size."""
@@ -243,6 +276,12 @@ class Talk:
             if not self.is_told(told, self.reply(front[:length], 8192, ends=True)):
                 return
             self.gone(first, front[:length], behind, told)
+
+    def once(self, first, front, behind, told):
+        """A request for which the journal's file is opened once."""
+        opened = times_opened(self.folder / "night.journal", lambda: self.is_told(told, self.reply(front, len(front))))
+        if opened != 1:
+            self.fail(first, "that the journal's file is opened once", f"{opened} times")
 
     def gone(self, first, front, behind, told):
         """A client goes away once it has sent this."""

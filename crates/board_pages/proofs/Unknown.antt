@@ -1,6 +1,6 @@
 -- What a page says of starts that aren't known.
 use Rattle.std.proofs.lemmas.List.Sums.{length-filter}
-use Rattle.std.specs.Prelude.{count_by}
+use Rattle.std.specs.Prelude.{◌==◌, codes, cond, count_by, decimal, drop}
 use Rattle.std.proofs.Common.{◌≡◌, ◌∙◌, refl, sym, ap, subst, ℕ, zero, suc, Bool, true, false, not, ◌&&◌, List, [], ◌∷◌, length, filter, Contains}
 use Rattle.forecast_texts.specs.plan_outlooks.specs.Forecasts.{Forecast, IsForecastOf, IsSinceUnknown}
 use Rattle.forecast_texts.specs.plan_outlooks.specs.Operations.{IsOperationOutlook}
@@ -12,6 +12,7 @@ use Rattle.plan_basics.specs.declared.keys.OpKey.{OpKey}
 use Rattle.plan_model.specs.ready_list.proofs.Members.{contains_filter, contains_from_filter}
 use Rattle.board_pages.specs.Choices.{is_going_since_unknown}
 use Rattle.board_pages.specs.Laws.{UnknownIsTold}
+use Rattle.html_pages.specs.Pieces.{Markup, Part, Text, filled, first_of}
 use Rattle.board_pages.specs.Pages.{unknown_count, unknown_parts}
 use Rattle.board_pages.proofs.Going.{begins_if_going}
 
@@ -30,9 +31,18 @@ module _ (F : Forecast) (r : OperationOutlook) (row : IsOperationOutlook F r) wh
 
 -- ---- the page
 
+-- a template that isn't empty has pieces
+either_piece : (b : Bool) (p q : Part) (ps qs : List Part) → cond b (p ∷ ps) (q ∷ qs) ≡ [] → ⊥
+either_piece true p q ps qs e = cc
+either_piece false p q ps qs e = cc
+
+some_piece : (b : ℕ) (t : List ℕ) (texts : List (List ℕ)) → filled (b ∷ t) texts ≡ [] → ⊥
+unfolding filled
+some_piece b t texts e = either_piece (b == 126) (Text (first_of texts)) (Markup (b ∷ [])) (filled t (drop 1 texts)) (filled t texts) e
+
 silent : (n : ℕ) → unknown_parts n ≡ [] → n ≡ 0
 silent zero e = refl
-silent (suc n) e = absurd (cc)
+silent (suc n) e = absurd (some_piece 46 (codes " Going since an unknown moment: <b>~</b>, each taken to begin at the clock and to last its whole duration") (decimal (suc n) ∷ []) e)
 
 no_length : {X : Type 0} (xs : List X) → length xs ≡ 0 → xs ≡ []
 no_length [] e = refl

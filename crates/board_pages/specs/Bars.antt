@@ -6,7 +6,7 @@ use Rattle.plan_basics.specs.declared.keys.OccKey.{OccKey}
 use Rattle.forecast_texts.specs.plan_outlooks.specs.declared.rows.OccurrenceOutlook.{OccurrenceOutlook}
 use Rattle.forecast_texts.specs.plan_outlooks.specs.declared.rows.OperationOutlook.{OperationOutlook}
 use Rattle.forecast_texts.specs.plan_outlooks.specs.declared.rows.Outlooks.{Outlooks}
-use Rattle.board_pages.specs.declared.cells.Bar.{Bar}
+use Rattle.board_pages.specs.declared.bars.Bar.{Bar}
 
 -- the later of a minute and a deadline, where that comes by the end of the day
 abbrev pub later_within : ℕ → ℕ → ℕ → ℕ

@@ -11,6 +11,7 @@ use Rattle.status_rules.specs.declared.Status.{Status}
 use Rattle.status_rules.specs.declared.Status.TheVariants.{Complete}
 use Rattle.board_pages.specs.Pages.{IsBoardPage}
 use Rattle.board_pages.specs.declared.views.View.{View}
+use Rattle.board_pages.specs.declared.views.Watch.{Watch}
 
 -- whether a status is complete
 abbrev pub is_complete : Status → Bool
@@ -21,7 +22,7 @@ is_complete s = false
 abbrev pub IsCompleteCount : Contents → ℕ → Type 0
 IsCompleteCount P n = (views : List OpView) × AreOpViews P views × (n ≡ length (filter (λ v. is_complete v.status) views))
 
--- the text is the board's page of what is read off a forecast of this plan, looked at so
-abbrev pub IsBoard : Plan → (OpKey → Option ℕ) → ℕ → Option ℕ → View → List ℕ → Type 0
-IsBoard P known from until view text =
-    (x : Outlooks) × IsOutlook P known from until x × ((n : ℕ) × IsCompleteCount P.contents n × IsBoardPage x n view text)
+-- the text is the board's page of what is read off a forecast of this plan, looked at so, at a desk that knows this
+abbrev pub IsBoard : Plan → (OpKey → Option ℕ) → ℕ → View → Option Watch → List ℕ → Type 0
+IsBoard P known from view watch text =
+    (x : Outlooks) × IsOutlook P known from view.until x × ((n : ℕ) × IsCompleteCount P.contents n × IsBoardPage x n view watch text)

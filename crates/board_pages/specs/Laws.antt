@@ -1,25 +1,10 @@
--- What is so of every page: no text that is put in breaks it, and it says where a start isn't known.
-use Rattle.std.specs.Prelude.{◌≡◌, ◌⊎◌, ◌↔◌, ℕ, List, [], filter, flat_map}
+-- What is so of every page: it says where a start isn't known.
+use Rattle.std.specs.Prelude.{◌≡◌, ◌↔◌, []}
 use Rattle.forecast_texts.specs.plan_outlooks.specs.Forecasts.{Forecast, IsForecastOf, IsSinceUnknown}
 use Rattle.forecast_texts.specs.plan_outlooks.specs.Outlooks.{AreOutlooks}
 use Rattle.forecast_texts.specs.plan_outlooks.specs.declared.rows.Outlooks.{Outlooks}
-use Rattle.plan_basics.specs.Names.{IsName, IsResourceName}
 use Rattle.plan_basics.specs.declared.keys.OpKey.{OpKey}
 use Rattle.board_pages.specs.Pages.{unknown_count}
-use Rattle.board_pages.specs.Pieces.{Markup, Part, Text, bytes, is_special, plain}
-
--- the bytes of a piece's markup; none of a text that is put in
-abbrev pub markup_of : Part → List ℕ
-markup_of (Markup m) = m
-markup_of (Text t) = []
-
--- of the bytes of a page those that HTML takes for markup are those of its markup
-abbrev pub MarkupStands : Type 0
-MarkupStands = (parts : List Part) → filter is_special (bytes parts) ≡ filter is_special (flat_map markup_of parts)
-
--- each name is shown as it is, that of a special resource too
-abbrev pub NamesStand : Type 0
-NamesStand = (n : ℕ) (t : List ℕ) → IsName n t ⊎ IsResourceName t → plain t ≡ t
 
 -- the page of what is read off a forecast is silent on unknown starts exactly where nothing is going since nobody knows when
 abbrev pub UnknownIsTold : Type 0

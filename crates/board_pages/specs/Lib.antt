@@ -1,12 +1,10 @@
 pub use Rattle.forecast_texts
-pub mod Pieces
-pub mod Cells
+pub use Rattle.html_pages
 pub mod Tables
 pub mod Bars
 pub mod Choices
 pub mod Views
 pub mod Rows
 pub mod Pages
-pub mod Refusals
 pub mod Laws
 pub mod Boards

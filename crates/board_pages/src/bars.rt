@@ -3,9 +3,16 @@ ghost use Rattle.std.specs.Prelude.{◌≡◌, ◌<◌, ◌≤◌, ◌^◌};
 ghost use Rattle.plan_basics.specs.Minutes.{IsMoment};
 ghost use Rattle.board_pages.specs.Bars.{bar_end, bar_of, begin_of, is_of, last_deadline, later_within, length_of, per_mille, span_of, tick_minute};
 
-use super::cells::Bar;
 use forecast_texts::{OccurrenceOutlook, OperationOutlook, Outlooks};
 use plan_basics::{Moment, OccKey};
+
+/// A bar on the axis, and the mark of a deadline, in parts of a thousand of it.
+#[derive(Clone, Copy)]
+pub(crate) struct Bar {
+    pub start: u64,
+    pub width: u64,
+    pub mark: u64,
+}
 
 /// The minute of a moment.
 pub(crate) fn minute_of(moment: Moment) -> u64

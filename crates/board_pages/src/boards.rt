@@ -8,7 +8,7 @@ ghost use Rattle.forecast_texts.specs.plan_outlooks.specs.plan_records.specs.Ans
 ghost use Rattle.forecast_texts.specs.plan_outlooks.specs.plan_records.specs.Step.{Step};
 
 use super::pages::board_page;
-use super::views::View;
+use super::views::{View, Watch};
 use forecast_texts::{KnownStarts, OpView, Ops, Plan, outlooks};
 use plan_basics::{Moment, Refusal};
 use status_rules::Status;
@@ -36,21 +36,20 @@ fn complete_count(alloc: Global, plan: &Plan) -> Result<usize, AllocError>
     Ok(complete.len())
 }
 
-/// The board's page of a forecast of a plan, looked at so, by what is known of starts, from a moment on; up to another one, or where
-/// none is asked for as long as anything is due or may begin. The plan stays as it is. Refused as a tick at the first moment is, else
-/// as `Memory`.
+/// The board's page of a forecast of a plan, looked at so at a desk that knows this, by what is known of starts, from a moment on. The
+/// plan stays as it is. Refused as a tick at the first moment is, else as `Memory`.
 pub fn board_made(
     plan: &Plan,
     known: &KnownStarts,
     from: Moment,
-    until: Option<Moment>,
-    view: &View,
+    view: View,
+    watch: &Option<Watch>,
 ) -> Result<Vec<u8>, Refusal>
-    ensures page { IfOk result (λ page. IsBoard plan.now.plan (since_in known.now) from until view.now page.items) }
+    ensures page { IfOk result (λ page. IsBoard plan.now.plan (since_in known.now) from view watch.now page.items) }
     ensures refused { IfErr result (λ r. (r ≡ Refusal.Memory) ⊎ Step plan.now.plan (tick from) (refused r) plan.now.plan) }
 {
-    let told = outlooks(plan, known, from, until)?;
+    let told = outlooks(plan, known, from, view.until)?;
     let alloc = plan.alloc();
     let complete = complete_count(alloc, plan)?;
-    Ok(board_page(alloc, &told, complete, view)?)
+    Ok(board_page(alloc, &told, complete, view, watch)?)
 }

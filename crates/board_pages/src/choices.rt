@@ -73,34 +73,20 @@ pub(crate) fn running(
     rows.iter().copied().filter(|row| runs(row)).collect(alloc)
 }
 
-// Whether it is going and it isn't known since when.
-fn is_going_since_unknown(row: &OperationOutlook) -> bool
-    ensures { result ≡ is_going_since_unknown row.now }
-{
-    row.is_going && !row.is_known
-}
-
 /// How many are going of which it isn't known since when.
 pub(crate) fn going_since_unknown(rows: &[OperationOutlook]) -> usize
     ensures { result ≡ count_by is_going_since_unknown rows.now }
 {
     rows.iter()
-        .filter(|row| is_going_since_unknown(row))
+        .filter(|row| row.is_going && !row.is_known)
         .count()
-}
-
-// Whether the forecast doesn't end it.
-fn has_no_end(row: &OccurrenceOutlook) -> bool
-    ensures { result ≡ has_no_end row.now }
-{
-    row.end.is_none()
 }
 
 /// How many the forecast doesn't end.
 pub(crate) fn without_end(rows: &[OccurrenceOutlook]) -> usize
     ensures { result ≡ count_by has_no_end rows.now }
 {
-    rows.iter().filter(|row| has_no_end(row)).count()
+    rows.iter().filter(|row| row.end.is_none()).count()
 }
 
 // Whether it will be late.
@@ -124,10 +110,8 @@ pub(crate) fn late(
 ) -> Result<Vec<OccurrenceOutlook>, AllocError>
     ensures { IfOk result (λ chosen. chosen.items ≡ filter is_late rows.now) }
 {
-    rows.iter()
-        .copied()
-        .filter(|row| is_late(row))
-        .collect(alloc)
+    let late = rows.iter().copied().filter(|row| is_late(row));
+    late.collect(alloc)
 }
 
 // By how many minutes an occurrence ends before its deadline, negative where it is late; where it has no end, the minute of
@@ -149,13 +133,6 @@ fn place(row: &OccurrenceOutlook) -> (bool, i64)
     (row.end.is_some(), spare(row))
 }
 
-// These occurrences, once more.
-fn copied(alloc: Global, rows: &[OccurrenceOutlook]) -> Result<Vec<OccurrenceOutlook>, AllocError>
-    ensures { IfOk result (λ copy. copy.items ≡ rows.now) }
-{
-    rows.iter().copied().collect(alloc)
-}
-
 /// The occurrences, those without an end first, by deadline, and then the least time to spare; in their order where that is
 /// the same.
 pub(crate) fn by_spare(
@@ -164,7 +141,7 @@ pub(crate) fn by_spare(
 ) -> Result<Vec<OccurrenceOutlook>, AllocError>
     ensures { IfOk result (λ sorted. AreBySpare rows.now sorted.items) }
 {
-    let mut sorted = copied(alloc, rows)?;
+    let mut sorted = Vec::from_slice(alloc, rows)?;
     sorted.sort_by_key(|row| place(row))?;
     Ok(sorted)
 }

@@ -5,19 +5,16 @@
 
 mod bars;
 mod boards;
-mod cells;
 mod choices;
 mod laws;
 mod markup;
 mod pages;
-mod pieces;
-mod refusals;
 mod rows;
+mod tables;
 mod views;
 
 pub use boards::board_made;
 pub use forecast_texts::{KnownStarts, Outlooks, Plan, forecast_made, outlooks};
-pub use laws::{names_cannot_break, unknown_is_told};
+pub use laws::unknown_is_told;
 pub use pages::board_page;
-pub use refusals::{front_page, refused_page};
 pub use views::{Asked, View, Watch};

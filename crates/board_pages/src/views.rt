@@ -4,7 +4,7 @@ ghost use Rattle.std.specs.Ordering.{eq_by_cmp};
 ghost use Rattle.plan_basics.specs.Keys.{name_cmp};
 ghost use Rattle.board_pages.specs.Views.{unasked, unasked_by};
 
-use plan_basics::WsName;
+use plan_basics::{Moment, WsName};
 
 /// For how many minutes nobody has asked what is started on a workstation.
 #[derive(Clone, Copy)]
@@ -27,12 +27,12 @@ pub struct Watch {
 }
 
 /// How a page is looked at.
-#[derive(Drop)]
+#[derive(Clone, Copy)]
 pub struct View {
     /// Whether the browser doesn't load it again by itself.
     pub is_still: bool,
-    /// Nothing where no desk is served.
-    pub watch: Option<Watch>,
+    /// Up to when it tells; none where as long as anything is due or may begin.
+    pub until: Option<Moment>,
 }
 
 // Whether this is of a workstation.
@@ -56,8 +56,8 @@ fn unasked_by(watch: &Watch, workstation: &WsName) -> u64
 pub(crate) fn unasked(watch: &Option<Watch>, workstation: &WsName) -> Option<u64>
     ensures { result ≡ unasked watch.now workstation.now }
 {
-    match watch {
-        Some(watch) => Some(unasked_by(watch, workstation)),
-        None => None,
-    }
+    let Some(watch) = watch else {
+        return None;
+    };
+    Some(unasked_by(watch, workstation))
 }

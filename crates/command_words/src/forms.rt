@@ -410,7 +410,7 @@ pub const COMMANDS: [CommandForm; 13] = [
     CommandForm {
         name: "desk",
         about: "Serves trackers and operators over HTTP for good, and whoever looks at the desk",
-        example: "Example: plandesk desk --db night.db --port 8080 --journal night.log\nTo look at: / /board /forecast /health /report/occurrences /report/errors /report/late /report/ready/WS /show/started /show/operations/OCC /show/resources /show/workstations /show/trackers /started /started/WS /why/KEY",
+        example: "Example: plandesk desk --db night.db --port 8080 --journal night.log\nTo look at: / /board /forecast /health /report/occurrences /report/errors /report/late /report/ready/WS /show/dependencies/OCC /show/intervals/WS /show/operations/OCC /show/reach/KEY /show/resources /show/started /show/trackers /show/workstations /started /started/WS /why/KEY; as pages /page/show/operations/OCC /page/why/KEY",
         options: &[
             DATABASE,
             PORT,

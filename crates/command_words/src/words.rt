@@ -8,7 +8,7 @@ use clap::{Arg, ArgMatches, Command};
 use std::alloc::{AllocError, Global};
 
 /// The version of the newest entry of CHANGELOG.md.
-const VERSION: &str = "0.22.0";
+const VERSION: &str = "0.23.0";
 
 /// A long option, wherever it need not be given.
 fn option<'a>(alloc: Global, form: &OptionForm) -> Arg<'a> {

@@ -97,6 +97,7 @@ impl RecordCopy {
     }
 
     /// What it holds, which is sound, as counted records: nothing was looked at.
+    // It asks for no permit: what it gives can't be let go, so its count comes back.
     pub fn into_counted(self) -> CountedRecords
         requires { IsSound self }
         ensures { result ≡ record { contents = self; looks = 0 } }

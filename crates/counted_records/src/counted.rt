@@ -31,6 +31,7 @@ impl Model for CountedRecords {
 }
 
 /// The key and the record of an operation, and all that stands beside records.
+// What stands beside the record is lent with it, since nothing can be asked of `CountedRecords` that are lent.
 #[derive(Clone, Copy)]
 pub struct SeenOperation<'a> {
     pub key: &'a OpKey,
@@ -85,6 +86,7 @@ impl CountedRecords {
     }
 
     /// The operation at a place, which takes a look.
+    // The count stays at its end, so that a look can't fail.
     pub fn see(&mut self, place: usize) -> SeenOperation<'_>
         requires { place < length (entries self.old.contents.operations) }
         ensures* counts { sem 𝓛 (TakesOneLook self.entry) }

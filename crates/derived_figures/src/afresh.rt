@@ -28,6 +28,7 @@ pub struct DerivedAfresh {
 
 // The figures of these records, by the summaries of their operations: a look at each that may hold special resources, and so at none that
 // is ready. The error is always `Memory`.
+// A desk is opened by it too: so it stays beside what moves with requests, as the plain program next to the definition.
 fn figures_of(
     alloc: Global,
     records: &mut CountedRecords,

@@ -69,6 +69,7 @@ pub struct StatusBasis<'a> {
 ///
 /// What was kept before is that of a plan from which these contents differ in marks and flags alone, with the same statuses at
 /// all other places; then what is kept is that of these contents.
+// The list has room for an entry of each operation: so this can't fail, and what is prepared holds no list.
 pub fn update_statuses(
     records: &mut CountedRecords,
     by: StatusBasis<'_>,

@@ -42,6 +42,7 @@ pub fn satisfy(
 ///
 /// It takes a look at each place at most, one more at each of them that has a predecessor, and one at each operation that comes to
 /// wait for none. Refused where a growth was refused. Then as on success the journal leads back to what stood before.
+// A rerun alone takes back: no other small request edits what is satisfied, so one cascade serves them all (`satisfy`).
 pub fn unsatisfy(
     alloc: Global,
     graph: &Graph,

@@ -31,6 +31,7 @@ impl From<AllocError> for JournalFault {
 }
 
 /// A journal, if one is kept.
+// That none is kept is a case, so that one function serves with and without one, and each clause speaks of both.
 #[derive(Drop)]
 pub enum Journal<J> {
     /// None is kept: it takes whatever it is given.

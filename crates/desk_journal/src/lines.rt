@@ -1,9 +1,9 @@
 // The lines of a request and of its answer.
-ghost use Rattle.std.specs.Prelude.{◌≡◌, false, IfOk, option_map};
-ghost use Rattle.serde_json.specs.Data.{Data};
+ghost use Rattle.std.specs.Prelude.{◌≡◌, false, IfOk, codes, option_map};
+ghost use Rattle.serde_json.specs.Data.{Data, member, no_members, number, object, string, unsigned};
 ghost use Rattle.serde_json.specs.View.{view};
 ghost use Rattle.serde_json.specs.Written.{compact_text, has_float};
-ghost use Rattle.desk_journal.specs.Lines.{answer_data, line_of, request_data, text_of, text_or_null, told_of};
+ghost use Rattle.desk_journal.specs.Lines.{answer_data, by_member, line_of, request_data, text_of, text_or_null, told_of};
 
 use serde_json::{Value, json};
 use std::alloc::{AllocError, Global};
@@ -42,6 +42,40 @@ fn told_of(body: &[u8], is_brief: bool) -> &[u8]
     }
 }
 
+// A request whose body is told whole.
+fn whole_value(
+    alloc: Global,
+    told: Value,
+    by: Option<&str>,
+    clock: Value,
+    path: &str,
+) -> Result<Value, AllocError>
+    ensures { IfOk result (λ v. view v ≡ object (member (codes "body") (view told) (by_member (option_map (λ t. t.now) by.entry) (member (codes "clock") (view clock) (member (codes "path") (string path.now) no_members))))) }
+{
+    match by {
+        Some(by) => json!(in alloc; {"body": told, "by": by, "clock": clock, "path": path}),
+        None => json!(in alloc; {"body": told, "clock": clock, "path": path}),
+    }
+}
+
+// A request of whose body the beginning is told, and how many bytes it has.
+fn brief_value(
+    alloc: Global,
+    told: Value,
+    by: Option<&str>,
+    bytes: usize,
+    clock: Value,
+    path: &str,
+) -> Result<Value, AllocError>
+    ensures { IfOk result (λ v. view v ≡ object (member (codes "body") (view told) (by_member (option_map (λ t. t.now) by.entry) (member (codes "bytes") (number (unsigned bytes)) (member (codes "clock") (view clock) (member (codes "path") (string path.now) no_members)))))) }
+{
+    match by {
+        Some(by) =>
+            json!(in alloc; {"body": told, "by": by, "bytes": bytes, "clock": clock, "path": path}),
+        None => json!(in alloc; {"body": told, "bytes": bytes, "clock": clock, "path": path}),
+    }
+}
+
 fn request_value(
     alloc: Global,
     clock: Option<&str>,
@@ -54,14 +88,10 @@ fn request_value(
 {
     let told = text_or_null(alloc, text_of(told_of(body, is_brief)))?;
     let clock = text_or_null(alloc, clock)?;
-    let bytes = body.len();
-    match by {
-        Some(by) if is_brief =>
-            json!(in alloc; {"body": told, "by": by, "bytes": bytes, "clock": clock, "path": path}),
-        Some(by) => json!(in alloc; {"body": told, "by": by, "clock": clock, "path": path}),
-        None if is_brief =>
-            json!(in alloc; {"body": told, "bytes": bytes, "clock": clock, "path": path}),
-        None => json!(in alloc; {"body": told, "clock": clock, "path": path}),
+    if is_brief {
+        brief_value(alloc, told, by, body.len(), clock, path)
+    } else {
+        whole_value(alloc, told, by, clock, path)
     }
 }
 

@@ -1,17 +1,25 @@
 -- Terms that follow a desk.
-use Rattle.std.proofs.Common.{◌≡◌, ◌∙◌, refl, ℕ, MatchOption, Option, Some, None}
+use Rattle.std.proofs.Common.{◌≡◌, ◌∙◌, refl, ℕ, List, MatchOption, Option, Some, None, Result, Ok, Err, IfOk}
 use Rattle.plan_basics.specs.declared.keys.OpKey.{OpKey}
 use Rattle.desk_serving.specs.declared.terms.Terms.{Terms}
-use Rattle.desk_serving.specs.forecasting.specs.Known.{IsNotedOf, entry_of, since_noted}
+use Rattle.desk_serving.specs.forecasting.specs.Known.{AreOfGoing, IsNotedOf, IsStartTold, entry_of, since_in, since_noted}
+use Rattle.desk_serving.specs.forecasting.specs.declared.known.KnownStarts.{KnownStarts}
 use Rattle.desk_serving.specs.forecasting.specs.declared.known.Noted.{Noted}
 use Rattle.desk_serving.specs.plan_forecast.specs.Ahead.{IsGoing}
 use Rattle.command_desks.specs.desk_tables.specs.plan_model.specs.Contents.{Contents}
 use Rattle.command_desks.specs.desk_tables.specs.plan_model.specs.Plan.{Plan}
-use Rattle.desk_runs.specs.Following.{AreFollowed, AreStillTermsOf, AreTermsOf, HaveFollowed, not_yet, once_more}
+use Rattle.journal_starts.specs.Lines.{AreMentioned}
+use Rattle.desk_runs.specs.Following.{AreFirstKnownOf, AreFollowed, AreStillTermsOf, AreTermsOf, HaveFollowed, not_yet, once_more}
 
 nothing : (P : Contents) (o : OpKey) (entry : Option Noted) → MatchOption entry (¬ IsGoing P o) (IsNotedOf P o) → ¬ IsGoing P o → since_noted entry ≡ None
 nothing P o None h not = refl
 nothing P o (Some e) h not = absurd (not h.0)
+
+-- what is known at opening, by what a journal tells
+pub first_known : (P : Plan) (journal : List ℕ) (mentions : List (OpKey × Option ℕ)) → AreMentioned P.clock journal mentions
+    → {E : Type 0} (r : Result KnownStarts E) → IfOk r (AreOfGoing P.contents) → IfOk r (λ known. (o : OpKey) → IsStartTold P.contents mentions o (since_in known o)) → IfOk r (AreFirstKnownOf P journal)
+first_known P journal mentions read (Ok known) going told = record { going = going; told = (mentions, read, told) }
+first_known P journal mentions read (Err e) going told = tt
 
 -- where nothing changes nothing becomes known
 pub follows_itself : (P : Plan) (terms : Terms) → AreTermsOf P terms → AreFollowed P P terms terms

@@ -1,21 +1,27 @@
 -- What a desk that is served knows of starts.
-use Rattle.std.specs.Prelude.{◌≡◌, ℕ, Bool, Option, Some, None}
+use Rattle.std.specs.Prelude.{◌≡◌, ℕ, Bool, List, Option, Some}
 use Rattle.desk_serving.specs.declared.terms.Terms.{Terms}
-use Rattle.desk_serving.specs.forecasting.specs.Known.{AreOfGoing, since_in}
+use Rattle.desk_serving.specs.forecasting.specs.Known.{AreOfGoing, IsStartTold, since_in}
+use Rattle.desk_serving.specs.forecasting.specs.declared.known.KnownStarts.{KnownStarts}
 use Rattle.desk_serving.specs.plan_forecast.specs.Starts.{AreStartsAfter}
 use Rattle.command_desks.specs.desk_tables.specs.plan_model.specs.Plan.{Plan}
+use Rattle.journal_starts.specs.Lines.{AreMentioned}
 use Rattle.plan_basics.specs.declared.keys.OpKey.{OpKey}
 
 -- the terms have an entry of what is going in this plan, and of nothing else
 abbrev pub AreTermsOf : Plan → Terms → Type 0
 AreTermsOf P terms = AreOfGoing P.contents terms.known
 
--- so at opening, with a guard of so many minutes, and trackers bound or not: since when anything is going isn't known
-pub record AreFirstTermsOf (P : Plan) (minutes : ℕ) (is_bound : Bool) (terms : Terms) : Type 0 where
+-- what is known at opening, by the end of a journal: since when each operation runs that the plan has as running, as the journal tells it last; of nothing else
+pub record AreFirstKnownOf (P : Plan) (journal : List ℕ) (known : KnownStarts) : Type 0 where
+  pub going : AreOfGoing P.contents known
+  pub told : (mentions : List (OpKey × Option ℕ)) × AreMentioned P.clock journal mentions × ((o : OpKey) → IsStartTold P.contents mentions o (since_in known o))
+
+-- so of the terms, with a guard of so many minutes, and trackers bound or not
+pub record AreFirstTermsOf (P : Plan) (journal : List ℕ) (minutes : ℕ) (is_bound : Bool) (terms : Terms) : Type 0 where
   pub ahead : terms.ahead ≡ Some minutes
   pub bound : terms.bound ≡ is_bound
-  pub going : AreTermsOf P terms
-  pub unknown : (o : OpKey) → since_in terms.known o ≡ None
+  pub known : AreFirstKnownOf P journal terms.known
 
 -- starts as they were noted from this plan and these on, through any number of accepted requests: none is forgotten or set anew between two of them
 pub data HaveFollowed (P : Plan) (s : OpKey → Option ℕ) : Plan → (OpKey → Option ℕ) → Type 0 where

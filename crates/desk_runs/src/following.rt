@@ -3,26 +3,34 @@
 ghost use Rattle.std.specs.Prelude.{◌≡◌, IfErr, IfOk, OnErr, OnOk};
 ghost use Rattle.command_answers.specs.declared.endings.Fault.{Fault};
 ghost use Rattle.command_desks.specs.desk_tables.specs.plan_model.specs.Plan.{Plan as PlanValue};
-ghost use Rattle.desk_runs.specs.Following.{AreFirstTermsOf, AreFollowed, AreTermsOf};
+ghost use Rattle.desk_runs.specs.Following.{AreFirstKnownOf, AreFirstTermsOf, AreFollowed, AreTermsOf};
 
 use command_answers::Fault;
-use desk_serving::{KnownStarts, Plan, Terms, View};
+use desk_serving::{KnownStarts, Plan, Terms};
+use journal_starts::mentions_in;
+use std::alloc::AllocError;
 
-/// The terms of a desk that is opened with this plan, where a request's moment may be so many minutes after its clock, and
-/// trackers are bound to their names or not: of what is going it isn't known since when. The fault is that of memory.
-pub fn first_terms(plan: &Plan, minutes: u32, bound: bool) -> Result<Terms, Fault>
-    ensures first { IfOk result (AreFirstTermsOf plan.now.plan minutes bound) }
+// What is known of starts where a desk is opened with this plan, by the end of a journal.
+fn known_by(plan: &Plan, journal: &[u8]) -> Result<KnownStarts, AllocError>
+    ensures { IfOk result (AreFirstKnownOf plan.now.plan journal.now) }
+{
+    let mentions = mentions_in(plan.alloc(), journal, plan.clock())?;
+    KnownStarts::told(plan, &mentions)
+}
+
+/// The terms of a desk that is opened with this plan and this end of a journal, where a request's moment may be so many minutes
+/// after its clock, and trackers are bound to their names or not: of what runs it is known since when, where the journal tells
+/// that, and of nothing else. The fault is that of memory.
+pub fn first_terms(plan: &Plan, journal: &[u8], minutes: u32, bound: bool) -> Result<Terms, Fault>
+    ensures first { IfOk result (AreFirstTermsOf plan.now.plan journal.now minutes bound) }
     ensures fault { IfErr result (λ fault. fault ≡ Fault.Memory) }
 {
-    let known = KnownStarts::of(plan)?;
+    let known = known_by(plan, journal)?;
     Ok(Terms {
         ahead: Some(minutes),
         bound,
         known,
-        view: View {
-            is_still: false,
-            watch: None,
-        },
+        watch: None,
     })
 }
 

@@ -1,5 +1,7 @@
-// The file of a journal: opened, and made where there is none, for each line anew, so that it can be moved meanwhile.
-ghost use Rattle.std.specs.Prelude.{◌≡◌, IfErr};
+// The file of a journal: opened, and made where there is none, for each exchange anew, so that it can be moved meanwhile.
+ghost use Rattle.std.specs.Prelude.{◌≡◌, [], IfErr, OnOk};
+ghost use Rattle.std.specs.Io.KnownBytes.{Appends};
+ghost use Rattle.desk_journal.specs.Lines.{entries_of};
 ghost use Rattle.command_answers.specs.declared.endings.Fault.{Fault};
 
 use command_answers::Fault;
@@ -19,13 +21,16 @@ fn appending(rt: &HostRuntime, path: &str) -> io::Result<File> {
         .open(rt, path)
 }
 
-/// What is appended to the file that has a name when its first byte comes, up to the flush, which closes the file. So a line
-/// that is written and flushed stands whole in one file, also where another gets the name.
+/// What is appended to the file that has a name when its first byte comes, up to a flush with nothing to be flushed, which
+/// closes the file. So lines that are written and flushed one by one stand whole in one file until then, also where another
+/// gets the name.
 #[derive(Drop)]
 pub struct NamedFile<'a> {
     rt: &'a HostRuntime,
     path: &'a str,
     open: Option<File>,
+    /// Whether something was written since it was flushed last.
+    written: bool,
 }
 
 impl Write for NamedFile<'_> {
@@ -34,13 +39,17 @@ impl Write for NamedFile<'_> {
             Some(file) => file,
             None => appending(self.rt, self.path)?,
         };
-        let written = file.write(buf);
+        let count = file.write(buf);
         self.open = Some(file);
-        written
+        self.written = true;
+        count
     }
 
     fn flush(&mut self) -> io::Result<()> {
-        self.open = None;
+        if !self.written {
+            self.open = None;
+        }
+        self.written = false;
         Ok(())
     }
 }
@@ -62,6 +71,37 @@ fn last_byte_of(rt: &HostRuntime, path: &str) -> io::Result<Option<u8>> {
     last_byte(&mut file)
 }
 
+/// How many bytes of a journal's end are read as a desk is opened: the lines of a full night.
+const MOST_READ: u64 = 16_777_216;
+
+// The end of a file, as many bytes as are read.
+fn end_of_file(rt: &HostRuntime, file: &mut File) -> io::Result<Vec<u8>> {
+    let length = file.seek(SeekFrom::End(0))?;
+    file.seek(SeekFrom::Start(length.saturating_sub(MOST_READ)))?;
+    let mut end = Vec::new(rt.alloc());
+    file.read_to_end(&mut end)?;
+    Ok(end)
+}
+
+// The end of the file of a name; the file is made where there is none.
+fn end_of_named(rt: &HostRuntime, path: &str) -> io::Result<Vec<u8>> {
+    let mut file = appending(rt, path)?;
+    end_of_file(rt, &mut file)
+}
+
+/// The end of the journal in the file of this path, nothing where none is named. `File` where it can't be had.
+pub fn journal_end(rt: &HostRuntime, path: Option<&str>) -> Result<Vec<u8>, Fault>
+    ensures { IfErr result (λ fault. fault ≡ Fault.File) }
+{
+    let Some(path) = path else {
+        return Ok(Vec::new(rt.alloc()));
+    };
+    match end_of_named(rt, path) {
+        Ok(end) => Ok(end),
+        Err(_) => Err(Fault::File),
+    }
+}
+
 /// The journal in the file of this path, if one is named. A line that was cut short is ended. `File` where it can't be had,
 /// or takes nothing.
 pub fn opened_journal<'a>(
@@ -80,9 +120,22 @@ pub fn opened_journal<'a>(
         rt,
         path,
         open: None,
+        written: false,
     }));
     if !journal.end_line(last) {
         return Err(Fault::File);
     }
     Ok(journal)
+}
+
+/// Ends an exchange: nothing is added to the journal, and its file is closed. `File` where it can't be.
+pub fn end_exchange<J: Write>(journal: &mut Journal<J>) -> Result<(), Fault>
+    ensures nothing { OnOk result (Appends (entries_of J.contents journal.old) (entries_of J.contents journal.new) []) }
+    ensures fault { IfErr result (λ fault. fault ≡ Fault.File) }
+{
+    if journal.enter(b"") {
+        Ok(())
+    } else {
+        Err(Fault::File)
+    }
 }

@@ -9,6 +9,7 @@ ghost use Rattle.desk_runs.specs.Connections.{GoesOn};
 ghost use Rattle.desk_runs.specs.Following.{AreFollowed, AreStillTermsOf, AreTermsOf};
 
 use super::following::follow;
+use super::journals::end_exchange;
 use super::seen::{Seen, looked, note_asked};
 use super::timed::{HeardStream, ReplyStream, TimedStream};
 use super::waiting::{LISTENER, MOST_WAITING, Waiting};
@@ -114,6 +115,7 @@ fn serve_event<J: Write, S: Alter + Drop>(
         return Ok(false);
     };
     serve_readable(rt, &stream, journal, desk, terms, &mut callers.seen)?;
+    end_exchange(journal)?;
     Ok(false)
 }
 
@@ -172,6 +174,7 @@ fn door_of(rt: &HostRuntime, listener: &TcpListener, seen: Seen) -> io::Result<D
 
 /// Waits until somebody has something, or looks who has, where more may be knocking; serves those who have; and takes in
 /// those who knock.
+// Nobody's first byte is waited for, not even for a while: each silent client would hold the others so long.
 fn serve_turn<J: Write, S: Alter + Drop>(
     rt: &HostRuntime,
     listener: &TcpListener,
@@ -193,7 +196,7 @@ fn serve_turn<J: Write, S: Alter + Drop>(
     let Ok(watch) = looked(rt, &mut door.callers.seen, desk.plan()) else {
         return Err(Fault::Network);
     };
-    terms.view.watch = Some(watch);
+    terms.watch = Some(watch);
     let told = serve_events(rt, &door.events, &mut door.callers, journal, desk, terms)?;
     if door.knocking || told {
         let Ok(more) = door

@@ -11,7 +11,7 @@ ghost use Rattle.desk_serving.specs.tracker_http.specs.Continuing.{Continues};
 ghost use Rattle.desk_runs.specs.Following.{AreFollowed, AreTermsOf};
 
 use super::following::{first_terms, follow};
-use super::journals::opened_journal;
+use super::journals::{end_exchange, journal_end, opened_journal};
 use super::polling::serve_polled;
 use super::seen::Seen;
 use super::serving::taken_port;
@@ -97,9 +97,11 @@ fn start<S: Alter + Drop, W: Write>(
     ensures continues { Continues S.Store desk.old desk.new }
 {
     let mut journal = opened_journal(rt, given.get_str("journal"))?;
+    let end = journal_end(rt, given.get_str("journal"))?;
     let minutes = given.get_one::<u32>("ahead").unwrap_or(MINUTES_AHEAD);
-    let mut terms = first_terms(desk.plan(), minutes, given.get_flag("bound"))?;
+    let mut terms = first_terms(desk.plan(), &end, minutes, given.get_flag("bound"))?;
     let answer = brought_to(rt, given, at, &mut journal, desk, &mut terms)?;
+    end_exchange(&mut journal)?;
     match answer {
         Some(Reply::Refused(refusal)) => tell(out, &Reply::Refused(refusal)),
         Some(Reply::Accepted { .. }) | None => {

@@ -7,7 +7,7 @@ ghost use Rattle.desk_runs.specs.Seen.{IsWatchOf, asked_by, minutes_between, mov
 use command_answers::Fault;
 use command_desks::Plan;
 use desk_serving::{Asked, Watch};
-use http_messages::{Look, Wanted, read_wanted};
+use http_messages::{Detail, Look, Wanted, read_wanted};
 use plan_basics::{Moment, Watched, WsName};
 use std::alloc::{AllocError, Global};
 use std::io;
@@ -120,7 +120,7 @@ impl Seen {
 // The workstation that a request asks for, by its bytes: what is started there.
 fn workstation_in(alloc: Global, heard: &[u8]) -> Option<WsName> {
     match read_wanted(alloc, &mut Watched::new(heard), 0) {
-        Ok(Ok(Wanted::Look(Look::StartedOn(name)))) => WsName::from_text(&name),
+        Ok(Ok(Wanted::Look(Look::Detail(Detail::Started, name)))) => WsName::from_text(&name),
         _ => None,
     }
 }

@@ -65,6 +65,7 @@ fn tick_body(alloc: Global, moment: &str) -> Result<Vec<u8>, Fault>
 
 /// The desk's answer to a tick at the moment of a text, which is asked as an operator asks it, between two lines of the
 /// journal.
+// So a night that is played from its journal has it too.
 pub fn tick<J: Write, S: Alter + Drop>(
     alloc: Global,
     journal: &mut Journal<J>,

@@ -21,6 +21,7 @@ pub const LISTENER: usize = 0;
 
 /// Connections that have sent nothing so far, the oldest first, each under a token that none had before. There is room for
 /// all that may wait.
+// (So an event that comes late serves no silent one, for which the desk would wait: who is served blocks it.)
 #[derive(Drop)]
 pub struct Waiting {
     streams: VecDeque<(usize, TcpStream)>,

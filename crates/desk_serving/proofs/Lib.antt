@@ -1,3 +1,4 @@
+mod Board
 mod Clock
 mod Ending
 mod Foreign

@@ -1,17 +1,23 @@
 -- What a look is shown of a desk.
-use Rattle.std.specs.Prelude.{◌≡◌, ◌⊎◌, Bool, if◌then◌else◌, ℕ, List, Option, Some, None, unwrap_or}
+use Rattle.std.specs.Prelude.{◌≡◌, ◌⊎◌, Bool, true, false, if◌then◌else◌, ℕ, nat_lt, List, Option, Some, None, unwrap_or}
 use Rattle.board_pages.specs.Boards.{IsBoard}
-use Rattle.board_pages.specs.Pieces.{bytes}
-use Rattle.board_pages.specs.Refusals.{front_parts, refused_parts}
+use Rattle.html_pages.specs.Looks.{look_parts}
+use Rattle.html_pages.specs.Pieces.{bytes}
+use Rattle.html_pages.specs.Refusals.{front_parts, refused_parts}
 use Rattle.board_pages.specs.declared.views.View.{View}
 use Rattle.board_pages.specs.declared.views.Watch.{Watch}
 use Rattle.board_pages.specs.forecast_texts.specs.plan_outlooks.specs.forecasting.specs.Known.{since_in}
 use Rattle.board_pages.specs.forecast_texts.specs.Texts.{IsForecastText}
 use Rattle.http_messages.specs.Replies.{page_reply, reply, text_reply}
+use Rattle.http_messages.specs.declared.looks.Detail.{Detail}
+use Rattle.http_messages.specs.declared.looks.Detail.TheVariants as detail
 use Rattle.http_messages.specs.declared.looks.Look.{Look}
 use Rattle.http_messages.specs.declared.looks.Look.TheVariants as look
 use Rattle.http_messages.specs.declared.looks.Page.{Page}
 use Rattle.http_messages.specs.declared.looks.Page.TheVariants as page
+use Rattle.http_messages.specs.declared.queries.BoardQuery.{BoardQuery}
+use Rattle.http_messages.specs.declared.queries.Until.{Until}
+use Rattle.http_messages.specs.declared.queries.Until.TheVariants as until
 use Rattle.http_messages.specs.declared.statuses.Status.TheVariants as status
 use Rattle.plan_basics.specs.KeyTexts.{IsOccurrenceText}
 use Rattle.plan_basics.specs.Keys.{IsOccurrenceKey, Name}
@@ -42,6 +48,16 @@ refused_reply r = reply_of (told.Answer (answer.Refused r))
 -- the reply that tells a refusal as a page, which loads again unless it is to be still
 abbrev pub refused_page_reply : Bool → Refusal → List ℕ
 refused_page_reply still r = page_reply (status_of_refusal r) (bytes (refused_parts still (name_of r)))
+
+-- as what a text is shown: as it is, or as a page under a key, with or without rows
+abbrev pub shown_as : Bool → List ℕ → Bool → List ℕ → List ℕ
+shown_as false key rows text = text_reply text
+shown_as true key rows text = page_reply status.Success (bytes (look_parts key rows text))
+
+-- and a refusal, as a page by its name
+abbrev pub refused_as : Bool → Refusal → List ℕ
+refused_as false r = refused_reply r
+refused_as true r = page_reply (status_of_refusal r) (bytes (look_parts (name_of r) false (name_of r)))
 
 -- the reply that tells a value by its text
 abbrev pub value_reply : List ℕ → List ℕ
@@ -88,9 +104,32 @@ ShowsStarted w d output = ShowsValue (owed_by d.is_usable (started_refusal_of w 
 abbrev pub ShowsForecast : {S : Type 0} → (OpKey → Option ℕ) → DeskState S → List ℕ → Type 0
 ShowsForecast starts d output = ShowsText (refusal_of d.is_usable d.plan) (IsForecastText d.plan starts d.plan.clock None) output
 
--- the board's page of it, looked at so; a refusal is a page too
-abbrev pub ShowsBoard : {S : Type 0} → (OpKey → Option ℕ) → View → DeskState S → List ℕ → Type 0
-ShowsBoard starts view d output = ShowsBy (refused_page_reply view.is_still) (page_reply status.Success) (refusal_of d.is_usable d.plan) (IsBoard d.plan starts d.plan.clock None view) output
+-- ---- the board
+
+-- the moment up to which it is asked to tell, if it is one
+abbrev pub moment_of : Until → Option ℕ
+moment_of until.End = None
+moment_of (until.Moment m) = Some m
+moment_of until.NoMoment = None
+
+-- it is refused where it is none, or before the plan's clock
+abbrev pub until_refusal_of : ℕ → Until → Option Refusal
+until_refusal_of clock until.End = None
+until_refusal_of clock (until.Moment m) = if nat_lt m clock then Some refusal.Past else None
+until_refusal_of clock until.NoMoment = Some refusal.MomentRange
+
+-- the refusal that a desk owes to whoever asks for the board: what it owes for any report, or else that of the moment
+abbrev pub board_refusal_of : Bool → Plan → Until → Option Refusal
+board_refusal_of usable P u = if usable then (if P.loaded then until_refusal_of P.clock u else Some refusal.NotLoaded) else Some refusal.Reopen
+
+-- how it is looked at
+abbrev pub view_of : BoardQuery → View
+view_of q = record { is_still = q.is_still; until = moment_of q.until }
+
+-- its page, of a forecast from the plan's clock on; a refusal is a page too
+abbrev pub ShowsBoard : {S : Type 0} → (OpKey → Option ℕ) → BoardQuery → Option Watch → DeskState S → List ℕ → Type 0
+ShowsBoard starts q watch d output =
+    ShowsBy (refused_page_reply q.is_still) (page_reply status.Success) (board_refusal_of d.is_usable d.plan q.until) (IsBoard d.plan starts d.plan.clock (view_of q) watch) output
 
 -- for how many minutes a plan's clock has stood, as far as it is known
 abbrev pub stood_in : Option Watch → ℕ
@@ -108,9 +147,8 @@ ShowsPage terms page.ShowResources d output = ShowsShow show.Resources d output
 ShowsPage terms page.ShowWorkstations d output = ShowsShow show.Workstations d output
 ShowsPage terms page.ShowTrackers d output = ShowsShow show.Trackers d output
 ShowsPage terms page.Started d output = ShowsStarted None d output
-ShowsPage terms page.Health d output = ShowsValue (owed_by d.is_usable None) (λ text. text ≡ compact_text (health_data (stood_in terms.view.watch) d.plan)) output
+ShowsPage terms page.Health d output = ShowsValue (owed_by d.is_usable None) (λ text. text ≡ compact_text (health_data (stood_in terms.watch) d.plan)) output
 ShowsPage terms page.Forecast d output = ShowsForecast (since_in terms.known) d output
-ShowsPage terms page.Board d output = ShowsBoard (since_in terms.known) terms.view d output
 
 -- the report of what is ready on the workstation of this name; one that is no name is no plan's
 abbrev pub ShowsReady : {S : Type 0} → List ℕ → DeskState S → List ℕ → Type 0
@@ -124,17 +162,18 @@ ShowsStartedOn name d output =
     (IsName 4 name × ShowsStarted (Some name) d output)
     ⊎ ((¬ IsName 4 name) × (output ≡ refused_reply (refusal_or refusal.UnknownWorkstation d.is_usable d.plan)))
 
--- why the operation of this key doesn't go on at the plan's clock; what is no key is no plan's
-abbrev pub ShowsWhy : {S : Type 0} → List ℕ → DeskState S → List ℕ → Type 0
-ShowsWhy key d output =
-    ((o : OpKey) × IsTypedOperation key o × ShowsText (why_refusal_of d.is_usable d.plan o) (IsWhyReport d.plan o d.plan.clock) output)
-    ⊎ (((o : OpKey) → ¬ IsTypedOperation key o) × (output ≡ refused_reply (refusal_or refusal.UnknownOperation d.is_usable d.plan)))
+-- why the operation of this key doesn't go on at the plan's clock, as a text or as a page; what is no key is no plan's
+abbrev pub ShowsWhy : {S : Type 0} → Bool → List ℕ → DeskState S → List ℕ → Type 0
+ShowsWhy as_page key d output =
+    ((o : OpKey) × IsTypedOperation key o × ShowsBy (refused_as as_page) (shown_as as_page key false) (why_refusal_of d.is_usable d.plan o) (IsWhyReport d.plan o d.plan.clock) output)
+    ⊎ (((o : OpKey) → ¬ IsTypedOperation key o) × (output ≡ refused_as as_page (refusal_or refusal.UnknownOperation d.is_usable d.plan)))
 
 -- so, the operations of an occurrence
-abbrev pub ShowsOperations : {S : Type 0} → List ℕ → DeskState S → List ℕ → Type 0
-ShowsOperations key d output =
-    ((c : OccKey) × NamesOccurrence key c × ShowsShow (show.Operations c) d output)
-    ⊎ (((c : OccKey) → ¬ NamesOccurrence key c) × (output ≡ refused_reply (refusal_or refusal.UnknownOccurrence d.is_usable d.plan)))
+abbrev pub ShowsOperations : {S : Type 0} → Bool → List ℕ → DeskState S → List ℕ → Type 0
+ShowsOperations as_page key d output =
+    ((c : OccKey) × NamesOccurrence key c
+    × ShowsBy (refused_as as_page) (shown_as as_page key true) (desk_show_refusal_of d.is_usable (show.Operations c) d.plan) (IsShow (show.Operations c) d.plan d.receipts) output)
+    ⊎ (((c : OccKey) → ¬ NamesOccurrence key c) × (output ≡ refused_as as_page (refusal_or refusal.UnknownOccurrence d.is_usable d.plan)))
 
 -- so, its dependencies
 abbrev pub ShowsDependencies : {S : Type 0} → List ℕ → DeskState S → List ℕ → Type 0
@@ -154,13 +193,20 @@ ShowsIntervals name d output =
     (IsName 4 name × ShowsShow (show.Intervals name) d output)
     ⊎ ((¬ IsName 4 name) × (output ≡ refused_reply (refusal_or refusal.UnknownWorkstation d.is_usable d.plan)))
 
+-- what is shown of one thing, by its name or its key
+abbrev pub ShowsDetail : {S : Type 0} → Detail → List ℕ → DeskState S → List ℕ → Type 0
+ShowsDetail detail.Ready name d output = ShowsReady name d output
+ShowsDetail detail.Why key d output = ShowsWhy false key d output
+ShowsDetail detail.WhyPage key d output = ShowsWhy true key d output
+ShowsDetail detail.Operations key d output = ShowsOperations false key d output
+ShowsDetail detail.OperationsPage key d output = ShowsOperations true key d output
+ShowsDetail detail.Started name d output = ShowsStartedOn name d output
+ShowsDetail detail.Dependencies key d output = ShowsDependencies key d output
+ShowsDetail detail.Reach key d output = ShowsReach key d output
+ShowsDetail detail.Intervals name d output = ShowsIntervals name d output
+
 -- what a look is shown, by these terms
 abbrev pub Shows : {S : Type 0} → Terms → Look → DeskState S → List ℕ → Type 0
 Shows terms (look.Page p) d output = ShowsPage terms p d output
-Shows terms (look.Ready name) d output = ShowsReady name.items d output
-Shows terms (look.Why key) d output = ShowsWhy key.items d output
-Shows terms (look.ShowOperations key) d output = ShowsOperations key.items d output
-Shows terms (look.StartedOn name) d output = ShowsStartedOn name.items d output
-Shows terms (look.ShowDependencies key) d output = ShowsDependencies key.items d output
-Shows terms (look.ShowReach key) d output = ShowsReach key.items d output
-Shows terms (look.ShowIntervals name) d output = ShowsIntervals name.items d output
+Shows terms (look.Board q) d output = ShowsBoard (since_in terms.known) q terms.watch d output
+Shows terms (look.Detail x name) d output = ShowsDetail x name.items d output

@@ -5,12 +5,13 @@
 #![tactic(auto)]
 
 mod forecasts;
+mod keyed;
 mod served;
 mod showing;
 mod tables;
 mod terms;
 
-pub use board_pages::{Asked, KnownStarts, View, Watch};
+pub use board_pages::{Asked, KnownStarts, Watch};
 pub use plan_records::Reply;
 pub use plan_reports::{ReportFault, ready_report};
 pub use served::{MOST_SERVED_BYTES, serve_wanted};

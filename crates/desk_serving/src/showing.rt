@@ -5,18 +5,20 @@ ghost use Rattle.plan_reports.specs.plan_shows.specs.Values.{health_data, starte
 ghost use Rattle.plan_reports.specs.Reports.{IsOwed};
 ghost use Rattle.plan_basics.specs.declared.Refusal.{Refusal};
 ghost use Rattle.serde_json.specs.Written.{compact_text};
-ghost use Rattle.desk_serving.specs.Shown.{owed_by, refusal_or, refused_reply, stood_in, value_reply, Shows, ShowsOperations, ShowsPage, ShowsReady, ShowsShow, ShowsStartedOn, ShowsWhy};
+ghost use Rattle.desk_serving.specs.Shown.{owed_by, refusal_or, refused_reply, stood_in, value_reply, Shows, ShowsDetail, ShowsPage, ShowsReady, ShowsShow, ShowsStartedOn};
 
 use super::forecasts::{board_shown, forecast_shown};
+use super::keyed::{operations_shown, why_shown};
 use super::tables::{dependencies_shown, intervals_shown, reach_shown};
 use super::terms::Terms;
-use board_pages::{Watch, front_page};
-use http_messages::{Look, Page, Status, page_reply_bytes, reply_bytes, text_reply_bytes};
-use plan_basics::{OccKey, Refusal, WsName};
+use board_pages::Watch;
+use html_pages::front_page;
+use http_messages::{Detail, Look, Page, Status, page_reply_bytes, reply_bytes, text_reply_bytes};
+use plan_basics::{Refusal, WsName};
 use plan_records::Reply;
 use plan_reports::{
-    Desk, Show, errors_made, health_text, late_made, occurrences_made, operation_typed, ready_made,
-    show_made, started_text, why_made,
+    Desk, Show, errors_made, health_text, late_made, occurrences_made, ready_made, show_made,
+    started_text,
 };
 use sqlite::Alter;
 use std::alloc::{AllocError, Global};
@@ -138,9 +140,8 @@ fn page_shown<S: Alter + Drop>(
         Page::ShowWorkstations => show_shown(alloc, desk, &Show::Workstations),
         Page::ShowTrackers => show_shown(alloc, desk, &Show::Trackers),
         Page::Started => value_shown(alloc, started_made(alloc, desk, None)),
-        Page::Health => value_shown(alloc, health_made(alloc, desk, stood_in(&terms.view.watch))),
+        Page::Health => value_shown(alloc, health_made(alloc, desk, stood_in(&terms.watch))),
         Page::Forecast => forecast_shown(alloc, desk, &terms.known),
-        Page::Board => board_shown(alloc, desk, &terms.known, &terms.view),
     }
 }
 
@@ -172,31 +173,25 @@ fn started_shown<S: Alter + Drop>(
     }
 }
 
-// Why the operation of this key, which may be no key, doesn't go on at the plan's clock.
-fn why_shown<S: Alter + Drop>(
+// What is shown of one thing, by its name or its key, which may be none.
+fn detail_shown<S: Alter + Drop>(
     alloc: Global,
     desk: &Desk<S>,
-    key: &[u8],
+    detail: Detail,
+    name: &[u8],
 ) -> Result<Vec<u8>, AllocError>
-    ensures { IfOk result (λ output. ShowsWhy key.now desk.now output.items) }
+    ensures { IfOk result (λ output. ShowsDetail detail name.now desk.now output.items) }
 {
-    match operation_typed(key) {
-        Some(key) => text_shown(alloc, why_made(alloc, desk, &key, desk.plan().clock())),
-        None => refused_shown(alloc, refusal_or(desk, Refusal::UnknownOperation)),
-    }
-}
-
-// The operations of the occurrence of this key, which may be no key.
-fn operations_shown<S: Alter + Drop>(
-    alloc: Global,
-    desk: &Desk<S>,
-    key: &[u8],
-) -> Result<Vec<u8>, AllocError>
-    ensures { IfOk result (λ output. ShowsOperations key.now desk.now output.items) }
-{
-    match OccKey::from_text(key) {
-        Some(key) => show_shown(alloc, desk, &Show::Operations(key)),
-        None => refused_shown(alloc, refusal_or(desk, Refusal::UnknownOccurrence)),
+    match detail {
+        Detail::Ready => ready_shown(alloc, desk, name),
+        Detail::Why => why_shown(alloc, desk, name, false),
+        Detail::WhyPage => why_shown(alloc, desk, name, true),
+        Detail::Operations => operations_shown(alloc, desk, name, false),
+        Detail::OperationsPage => operations_shown(alloc, desk, name, true),
+        Detail::Started => started_shown(alloc, desk, name),
+        Detail::Dependencies => dependencies_shown(alloc, desk, name),
+        Detail::Reach => reach_shown(alloc, desk, name),
+        Detail::Intervals => intervals_shown(alloc, desk, name),
     }
 }
 
@@ -211,12 +206,7 @@ pub fn look_shown<S: Alter + Drop>(
 {
     match look {
         Look::Page(page) => page_shown(alloc, desk, *page, terms),
-        Look::Ready(name) => ready_shown(alloc, desk, name),
-        Look::Why(key) => why_shown(alloc, desk, key),
-        Look::ShowOperations(key) => operations_shown(alloc, desk, key),
-        Look::StartedOn(name) => started_shown(alloc, desk, name),
-        Look::ShowDependencies(key) => dependencies_shown(alloc, desk, key),
-        Look::ShowReach(key) => reach_shown(alloc, desk, key),
-        Look::ShowIntervals(name) => intervals_shown(alloc, desk, name),
+        Look::Board(query) => board_shown(alloc, desk, &terms.known, *query, &terms.watch),
+        Look::Detail(detail, name) => detail_shown(alloc, desk, *detail, name),
     }
 }

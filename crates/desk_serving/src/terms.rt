@@ -1,5 +1,5 @@
 // By what a desk is served.
-use board_pages::{KnownStarts, View};
+use board_pages::{KnownStarts, Watch};
 
 /// By what a desk is served.
 #[derive(Drop)]
@@ -10,6 +10,6 @@ pub struct Terms {
     pub bound: bool,
     /// The starts that are known, which forecasts take.
     pub known: KnownStarts,
-    /// What the desk knows beside its plan, which the board tells.
-    pub view: View,
+    /// What the desk knows beside its plan, by its own clock, which the board tells; nothing before it is served.
+    pub watch: Option<Watch>,
 }

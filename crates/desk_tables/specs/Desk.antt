@@ -74,6 +74,7 @@ abbrev pub HoldsNoState : Database → Type 0
 HoldsNoState = HoldsNoStateIn Second
 
 -- the tables are those that a desk makes
+-- (a desk that is made in a database with views has another schema, and of its tables nothing is promised)
 abbrev pub HasTables : StoreState → Type 0
 HasTables s = s.committed.schema ≡ desk_schema
 

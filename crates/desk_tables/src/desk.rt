@@ -211,6 +211,7 @@ impl<S: Alter + Drop> Desk<S> {
 
     /// The operations in error, one after the other, in key order; none before a plan is loaded. Refused as `Reopen` after a
     /// fault of the store.
+    // It takes `&self`: a `&mut` that goes into the result has no value after the call that a clause could name.
     pub fn errors(&self) -> Result<ErrorRows<'_, S>, Refusal>
         ensures rows { IfOk result (λ rows. AreErrorRows self.now.plan.contents rows) }
         ensures usable { IfOk result (λ rows. self.now.is_usable ≡ true) }

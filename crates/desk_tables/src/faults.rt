@@ -33,6 +33,7 @@ pub fn opening_refusal(error: &Error) -> Refusal
 
 /// What is told where no desk is made or opened: `Damaged` only where the store is open still, as its connection shows by
 /// taking a statement in, of which nothing is run.
+// A name that is taken is met in a transaction, and a fault in the rollback of that may have shut the store.
 pub fn refusal_told<S: Alter>(conn: &mut Connection<S>, refusal: Refusal) -> Refusal
     ensures idle { conn.old.in_transaction ≡ false → conn.new.in_transaction ≡ false }
     ensures reads { OnlyReads (state S.Store conn.old) (state S.Store conn.new) }

@@ -28,7 +28,7 @@ derived_is a b = refl
 pub key_apart : (a b : OpKey) → b ≢ a → eq_by_cmp derived.ghosts.cmp a b ≡ false
 key_apart a b apart = other_key operation_cmp_total operation_cmp-IsAntisymmetric a b (λ e. apart (sym e))
 
-same_or_other : (a b : OpKey) → (a ≡ b) ⊎ (a ≢ b)
+pub same_or_other : (a b : OpKey) → (a ≡ b) ⊎ (a ≢ b)
 same_or_other a b = elim (eq_by_cmp operation_cmp a b) as (λ t. eq_by_cmp operation_cmp a b ≡ t → (a ≡ b) ⊎ (a ≢ b)) [
   | true ↦ λ e. inl (tied_is operation_cmp-IsAntisymmetric a b e)
   | false ↦ λ e. inr (λ same. true≢false (sym (itself operation_cmp_total operation_cmp-IsAntisymmetric a) ∙ ap (eq_by_cmp operation_cmp a) same ∙ e))
@@ -178,16 +178,16 @@ same_runs false true f g = g refl
 same_runs false false f g = refl
 
 -- what is noted as running runs
-noted_runs : (P : Contents) (o : OpKey) (e : Noted) → IsNotedOf P o e → (e.is_running ≡ true → IsRunning P o) × (IsRunning P o → e.is_running ≡ true)
+pub noted_runs : (P : Contents) (o : OpKey) (e : Noted) → IsNotedOf P o e → (e.is_running ≡ true → IsRunning P o) × (IsRunning P o → e.is_running ≡ true)
 noted_runs P o e (going, (op, is, noted)) = (
   λ runs. (op, is, is_running_by op.mark (sym noted ∙ runs)),
   λ runs. (let same : op ≡ runs.0 = same_Some op runs.0 (sym is ∙ runs.1) in noted ∙ ap is_running (ap (λ (z : Operation). z.mark) same ∙ runs.2)),
 )
 
-noted_of : (P : Contents) (known : KnownStarts) → AreOfGoing P known → (o : OpKey) → (e : Noted) → entry_of known o ≡ Some e → IsNotedOf P o e
+pub noted_of : (P : Contents) (known : KnownStarts) → AreOfGoing P known → (o : OpKey) → (e : Noted) → entry_of known o ≡ Some e → IsNotedOf P o e
 noted_of P known is o e there = subst (λ (z : Option Noted). MatchOption z (¬ IsGoing P o) (IsNotedOf P o)) there (is.noted o)
 
-is_noted : (P : Contents) (known : KnownStarts) → AreOfGoing P known → (o : OpKey) → IsGoing P o → (e : Noted) × (entry_of known o ≡ Some e)
+pub is_noted : (P : Contents) (known : KnownStarts) → AreOfGoing P known → (o : OpKey) → IsGoing P o → (e : Noted) × (entry_of known o ≡ Some e)
 is_noted P known is o going = by (entry_of known o) refl
   where
     by : (z : Option Noted) → entry_of known o ≡ z → (e : Noted) × (z ≡ Some e)

@@ -7,6 +7,7 @@ pub mod Ends
 pub mod First
 pub mod Followed
 pub mod Gathered
+pub mod Heard
 pub mod Keeping
 pub mod Kept
 pub mod Leading

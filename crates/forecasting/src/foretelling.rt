@@ -60,6 +60,7 @@ fn requests_from(
 /// known start, and ends at that moment where it is over already; with none, and where it is only named, it is as if it began then.
 /// Starts should be known of what is going alone, as by a table that has followed the plan: any other counts as the operation's next
 /// one.
+/// After want of memory the plan may have been led on for a while.
 pub fn forecast(
     plan: &mut Plan,
     known: &KnownStarts,

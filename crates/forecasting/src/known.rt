@@ -1,12 +1,12 @@
 // Since when operations are going as they do, as far as it is known.
-ghost use Rattle.std.specs.Prelude.{◌≡◌, ◌<◌, false, length, None, Some, IfOk, OnErr, OnOk, slice_get};
+ghost use Rattle.std.specs.Prelude.{◌≡◌, ◌<◌, [], false, true, length, None, Some, IfOk, OnErr, OnOk, slice_get};
 ghost use Rattle.std.specs.FinMap.{entries};
 ghost use Rattle.plan_basics.specs.declared.keys.OpKey.{OpKey as OpKeyValue};
 ghost use Rattle.plan_model.specs.Contents.{Operation};
 ghost use Rattle.plan_model.specs.Plan.{Plan as PlanValue};
 ghost use Rattle.plan_forecast.specs.Ahead.{IsGoing};
 ghost use Rattle.plan_forecast.specs.Starts.{AreStartsAfter};
-ghost use Rattle.forecasting.specs.Known.{AreKeptOf, AreOfGoing, IsKept, IsKeptIf, entry_of, fresh_at, is_alike, is_running, kept_by, noted_by, since_in, since_noted};
+ghost use Rattle.forecasting.specs.Known.{AreKeptOf, AreOfGoing, HaveHeard, IsKept, IsKeptIf, IsStartTold, entry_of, fresh_at, is_alike, is_running, kept_by, newer, noted_by, runs_in, runs_noted, since_in, since_noted};
 
 use super::going::is_going_at;
 use derived_figures::LoadedPlan;
@@ -66,6 +66,26 @@ fn since_of(noted: Option<Noted>) -> Option<Moment>
         Some(noted) => noted.since,
         None => None,
     }
+}
+
+// Whether it is noted that it runs.
+fn runs_noted(noted: Option<Noted>) -> bool
+    ensures { result ≡ runs_noted noted }
+{
+    match noted {
+        Some(noted) => noted.is_running,
+        None => false,
+    }
+}
+
+// The start of what runs, by what was told before and what is told now: that, unless it is a start before the other one.
+fn newer(before: Option<Moment>, told: Option<Moment>) -> Option<Moment>
+    ensures { result ≡ newer before told }
+{
+    let (Some(last), Some(now)) = (before, told) else {
+        return told;
+    };
+    if now < last { None } else { told }
 }
 
 // What is kept of what runs, or doesn't, by what was noted before: its minute where that is alike, else this.
@@ -137,6 +157,43 @@ impl KnownStarts {
         let next = self.followed(plan, &fresh_at(self.follows, plan.clock()))?;
         *self = next;
         Ok(())
+    }
+
+    /// What is going in a plan; what runs does so since the minute that these tell of it last, if they do. Since when else isn't
+    /// known.
+    pub fn told(
+        plan: &Plan,
+        mentions: &[(OpKey, Option<Moment>)],
+    ) -> Result<KnownStarts, AllocError>
+        ensures going { IfOk result (AreOfGoing plan.now.plan.contents) }
+        ensures told { IfOk result (λ known. (o : OpKeyValue) → IsStartTold plan.now.plan.contents mentions.now o (since_in known o)) }
+    {
+        let mut known = KnownStarts::of(plan)?;
+        known.hear_all(mentions)?;
+        Ok(known)
+    }
+
+    // Hears what is told of operations, one after another.
+    fn hear_all(&mut self, mentions: &[(OpKey, Option<Moment>)]) -> Result<(), AllocError>
+        ensures { OnOk result (HaveHeard self.old mentions.now self.new []) }
+    {
+        let mut rest = mentions;
+        while let Some((mention, others)) = rest.split_first() {
+            self.hear(mention)?;
+            rest = others;
+        }
+        Ok(())
+    }
+
+    // Hears of the start of an operation, or that nobody knows it: it is noted, if that runs.
+    fn hear(&mut self, mention: &(OpKey, Option<Moment>)) -> Result<(), AllocError>
+        ensures { OnOk result (IsKeptIf (runs_in self.old mention.now.0 ≡ true) mention.now.0 (record { is_running = true; since = newer (since_in self.old mention.now.0) mention.now.1 }) self.old self.new) }
+    {
+        if !runs_noted(self.entry(&mention.0)) {
+            return Ok(());
+        }
+        let since = newer(self.start_of(&mention.0), mention.1);
+        self.keep(mention.0, true, since)
     }
 
     // What is going in a plan: of each what is kept here, or this where nothing is.

@@ -78,6 +78,7 @@ fn add_not_befores(
 }
 
 /// The beginnings of intervals and the not-befores from a moment up to another, in order, and perhaps again.
+// They are found once, since no request of a forecast changes them.
 pub(crate) fn lasting_turns(
     alloc: Global,
     loaded: &LoadedPlan,

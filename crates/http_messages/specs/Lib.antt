@@ -5,5 +5,6 @@ pub mod Fields
 pub mod Tests
 pub mod Foreign
 pub mod Requesters
+pub mod Queries
 pub mod Looks
 pub mod Heads

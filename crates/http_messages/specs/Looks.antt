@@ -1,8 +1,9 @@
 -- Which paths are looks', beside the routes, and what a request comes to that may be one.
-use Rattle.std.specs.Prelude.{◌≡◌, ◌≢◌, ◌⊎◌, ℕ, ◌<◌, List, ◌++◌, length, codes, Option, Result, Ok, Err, option_map, string_bytes}
-use Rattle.percent_encoding.specs.Percent.{percent_decode}
+use Rattle.std.specs.Prelude.{◌≡◌, ◌≢◌, ◌⊎◌, ℕ, List, codes, Option, Result, Ok, Err, option_map, string_bytes}
 use Rattle.http_messages.specs.declared.asking.Rejection.{Rejection}
 use Rattle.http_messages.specs.declared.asking.Rejection.TheVariants as test
+use Rattle.http_messages.specs.declared.looks.Detail.{Detail}
+use Rattle.http_messages.specs.declared.looks.Detail.TheVariants as detail
 use Rattle.http_messages.specs.declared.looks.Look.{Look}
 use Rattle.http_messages.specs.declared.looks.Look.TheVariants as look
 use Rattle.http_messages.specs.declared.looks.Page.{Page}
@@ -11,6 +12,7 @@ use Rattle.http_messages.specs.declared.statuses.Method.TheVariants as method
 use Rattle.http_messages.specs.declared.wanting.Wanted.{Wanted}
 use Rattle.http_messages.specs.declared.wanting.Wanted.TheVariants as wanted
 use Rattle.http_messages.specs.Foreign.{IsForeign}
+use Rattle.http_messages.specs.Queries.{GoesOnBy, IsBoardQuery, query_of}
 use Rattle.http_messages.specs.Requesters.{IsBy, IsMisnamed}
 use Rattle.http_messages.specs.Routes.{path_of}
 use Rattle.http_messages.specs.Statuses.{method_text}
@@ -29,33 +31,35 @@ page_path page.ShowTrackers = codes "/show/trackers"
 page_path page.Started = codes "/started"
 page_path page.Health = codes "/health"
 page_path page.Forecast = codes "/forecast"
-page_path page.Board = codes "/board"
 
--- the path goes on after this, and the bytes are what comes then, without its escapes
-abbrev pub GoesOnBy : List ℕ → List ℕ → List ℕ → Type 0
-GoesOnBy before path bytes = (rest : List ℕ) × (0 < length rest) × (path ≡ before ++ rest) × (bytes ≡ percent_decode rest)
+-- with what the path of a look at one thing begins
+abbrev pub detail_path : Detail → List ℕ
+detail_path detail.Ready = codes "/report/ready/"
+detail_path detail.Why = codes "/why/"
+detail_path detail.WhyPage = codes "/page/why/"
+detail_path detail.Operations = codes "/show/operations/"
+detail_path detail.OperationsPage = codes "/page/show/operations/"
+detail_path detail.Started = codes "/started/"
+detail_path detail.Dependencies = codes "/show/dependencies/"
+detail_path detail.Reach = codes "/show/reach/"
+detail_path detail.Intervals = codes "/show/intervals/"
 
--- the path is that of the look
-abbrev pub IsLookPath : Look → List ℕ → Type 0
-IsLookPath (look.Page p) path = path ≡ page_path p
-IsLookPath (look.Ready name) path = GoesOnBy (codes "/report/ready/") path name.items
-IsLookPath (look.Why key) path = GoesOnBy (codes "/why/") path key.items
-IsLookPath (look.ShowOperations key) path = GoesOnBy (codes "/show/operations/") path key.items
-IsLookPath (look.StartedOn name) path = GoesOnBy (codes "/started/") path name.items
-IsLookPath (look.ShowDependencies key) path = GoesOnBy (codes "/show/dependencies/") path key.items
-IsLookPath (look.ShowReach key) path = GoesOnBy (codes "/show/reach/") path key.items
-IsLookPath (look.ShowIntervals name) path = GoesOnBy (codes "/show/intervals/") path name.items
+-- the target is one of the look
+abbrev pub IsLookOf : Look → List ℕ → Type 0
+IsLookOf (look.Page p) target = path_of target ≡ page_path p
+IsLookOf (look.Board q) target = (path_of target ≡ codes "/board") × IsBoardQuery (query_of target) q
+IsLookOf (look.Detail d name) target = GoesOnBy (detail_path d) (path_of target) name.items
 
--- the target's path is no look's
+-- the target is no look's
 abbrev pub NoLook : List ℕ → Type 0
-NoLook target = (l : Look) → ¬ IsLookPath l (path_of target)
+NoLook target = (l : Look) → ¬ IsLookOf l target
 
--- the target's path is a look's, and the method is the one that looks take; or it is another
+-- the target is a look's, and the method is the one that looks take; or it is another
 abbrev pub LooksAt : List ℕ → List ℕ → Result Look Rejection → Type 0
-LooksAt m target (Ok l) = IsLookPath l (path_of target) × (m ≡ method_text method.Get)
-LooksAt m target (Err t) = ((l : Look) × IsLookPath l (path_of target)) × (m ≢ method_text method.Get) × (t ≡ test.OtherMethod method.Get)
+LooksAt m target (Ok l) = IsLookOf l target × (m ≡ method_text method.Get)
+LooksAt m target (Err t) = ((l : Look) × IsLookOf l target) × (m ≢ method_text method.Get) × (t ≡ test.OtherMethod method.Get)
 
--- what a request by this requester comes to: what it looks at; or, where its path is no look's, what it asks for, or the first test that it fails
+-- what a request by this requester comes to: what it looks at; or, where it is no look's, what it asks for, or the first test that it fails
 abbrev pub ComesToOwn : ℕ → Request → Option (List ℕ) → Result Wanted Rejection → Type 0
 ComesToOwn most request by (Ok (wanted.Look l)) = LooksAt request.method request.target (Ok l)
 ComesToOwn most request by (Ok (wanted.Asked a)) = NoLook request.target × AsksIn most request a.asked × (option_map string_bytes a.by ≡ by)

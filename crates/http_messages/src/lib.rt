@@ -9,6 +9,7 @@ mod fields;
 mod heads;
 mod hosts;
 mod looks;
+mod queries;
 mod reading;
 mod replies;
 mod requesters;
@@ -20,7 +21,8 @@ pub use asking::{
     Asked, ExchangeFault, MOST_BODY_BYTES, MOST_FIELDS, MOST_HEAD_BYTES, Rejection, read_exchange,
     read_exchange_in,
 };
-pub use looks::{Look, Page};
+pub use looks::{Detail, Look, Page};
+pub use queries::{BoardQuery, Until};
 pub use replies::{page_reply_bytes, reply_bytes, text_reply_bytes};
 pub use requesters::MOST_REQUESTER_BYTES;
 pub use statuses::{Method, Status};

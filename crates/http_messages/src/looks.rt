@@ -1,15 +1,14 @@
 // What a request looks at: paths beside the routes, by which nothing changes.
 ghost use Rattle.std.specs.Prelude.{◌≡◌, ◌≢◌, ◌<◌, ◌++◌, List, ℕ, length, IfOk, MatchOption};
-ghost use Rattle.percent_encoding.specs.Percent.{percent_decode as unescaped};
-ghost use Rattle.http_messages.specs.Looks.{IsLookPath, LooksAt, NoLook, page_path};
+ghost use Rattle.http_messages.specs.Looks.{IsLookOf, LooksAt, NoLook, detail_path, page_path};
+ghost use Rattle.http_messages.specs.declared.looks.Detail.{Detail as DetailValue};
 ghost use Rattle.http_messages.specs.declared.looks.Page.{Page as PageValue};
-ghost use Rattle.http_messages.specs.declared.looks.Look.{Look as LookValue};
 
 use crate::asking::Rejection;
-use crate::bytes::rest_after;
+use crate::bytes::{rest_after, unescaped};
+use crate::queries::{BoardQuery, board_query, query_of};
 use crate::routes::path_of;
 use crate::statuses::Method;
-use percent_encoding::percent_decode;
 use std::alloc::{AllocError, Global};
 
 /// What is shown under one path alone.
@@ -37,29 +36,40 @@ pub enum Page {
     Health,
     /// The forecast of the night.
     Forecast,
-    /// The same as a page of a browser.
-    Board,
 }
 
-/// What a request looks at. Names and keys are bytes, which may be none.
+/// What is shown of one thing, by its name or its key.
+#[derive(Clone, Copy)]
+pub enum Detail {
+    /// The report of what is ready on a workstation.
+    Ready,
+    /// Why an operation doesn't go on.
+    Why,
+    /// The same as a page of a browser.
+    WhyPage,
+    /// The table of an occurrence's operations.
+    Operations,
+    /// The same as a page of a browser.
+    OperationsPage,
+    /// What is started on a workstation, as JSON.
+    Started,
+    /// The table of an occurrence's dependencies.
+    Dependencies,
+    /// The table of what a rerun of an operation reaches.
+    Reach,
+    /// The table of a workstation's open intervals.
+    Intervals,
+}
+
+/// What a request looks at.
 #[derive(Drop)]
 pub enum Look {
     /// What is shown under one path alone.
     Page(Page),
-    /// The report of what is ready on a workstation, by its name.
-    Ready(Vec<u8>),
-    /// Why an operation doesn't go on, by its key.
-    Why(Vec<u8>),
-    /// The table of an occurrence's operations, by its key.
-    ShowOperations(Vec<u8>),
-    /// What is started on a workstation, by its name, as JSON.
-    StartedOn(Vec<u8>),
-    /// The table of an occurrence's dependencies, by its key.
-    ShowDependencies(Vec<u8>),
-    /// The table of what a rerun of an operation reaches, by its key.
-    ShowReach(Vec<u8>),
-    /// The table of a workstation's open intervals, by its name.
-    ShowIntervals(Vec<u8>),
+    /// The forecast of the night as a page of a browser, as its query asks for it.
+    Board(BoardQuery),
+    /// What is shown of one thing, by the bytes of its name or key, which may be none.
+    Detail(Detail, Vec<u8>),
 }
 
 // The page of a path, if it has one.
@@ -99,50 +109,58 @@ fn page_of(path: &[u8]) -> Option<Page>
     if path == "/forecast".as_bytes() {
         return Some(Page::Forecast);
     }
-    if path == "/board".as_bytes() {
-        return Some(Page::Board);
+    None
+}
+
+// What is shown of one thing under a path, and the name or key that the path goes on with.
+fn detail_of(path: &[u8]) -> Option<(Detail, &[u8])>
+    ensures { MatchOption result ((d : DetailValue) (rest : List ℕ) → 0 < length rest → path.now ≢ detail_path d ++ rest) (λ found. (0 < length found.1.now) × (path.now ≡ detail_path found.0 ++ found.1.now)) }
+{
+    if let Some(rest) = rest_after(path, b"/report/ready/") {
+        return Some((Detail::Ready, rest));
+    }
+    if let Some(rest) = rest_after(path, b"/why/") {
+        return Some((Detail::Why, rest));
+    }
+    if let Some(rest) = rest_after(path, b"/page/why/") {
+        return Some((Detail::WhyPage, rest));
+    }
+    if let Some(rest) = rest_after(path, b"/show/operations/") {
+        return Some((Detail::Operations, rest));
+    }
+    if let Some(rest) = rest_after(path, b"/page/show/operations/") {
+        return Some((Detail::OperationsPage, rest));
+    }
+    if let Some(rest) = rest_after(path, b"/started/") {
+        return Some((Detail::Started, rest));
+    }
+    if let Some(rest) = rest_after(path, b"/show/dependencies/") {
+        return Some((Detail::Dependencies, rest));
+    }
+    if let Some(rest) = rest_after(path, b"/show/reach/") {
+        return Some((Detail::Reach, rest));
+    }
+    if let Some(rest) = rest_after(path, b"/show/intervals/") {
+        return Some((Detail::Intervals, rest));
     }
     None
 }
 
-// A text without its escapes.
-fn unescaped(alloc: Global, text: &[u8]) -> Result<Vec<u8>, AllocError>
-    ensures { IfOk result (λ bytes. bytes.items ≡ unescaped text.now) }
+// What a target lets look at, if it does.
+fn look_of(alloc: Global, target: &[u8]) -> Result<Option<Look>, AllocError>
+    ensures { IfOk result (λ found. MatchOption found (NoLook target.now) (λ look. IsLookOf look target.now)) }
 {
-    let mut bytes = Vec::new(alloc);
-    percent_decode(text).append_to(&mut bytes)?;
-    Ok(bytes)
-}
-
-// What a path lets look at, if it does.
-fn look_of(alloc: Global, path: &[u8]) -> Result<Option<Look>, AllocError>
-    ensures { IfOk result (λ found. MatchOption found ((look : LookValue) → ¬ IsLookPath look path.now) (λ look. IsLookPath look path.now)) }
-{
+    let path = path_of(target);
     if let Some(page) = page_of(path) {
         return Ok(Some(Look::Page(page)));
     }
-    if let Some(rest) = rest_after(path, b"/report/ready/") {
-        return Ok(Some(Look::Ready(unescaped(alloc, rest)?)));
+    if path == "/board".as_bytes() {
+        return Ok(Some(Look::Board(board_query(alloc, query_of(target))?)));
     }
-    if let Some(rest) = rest_after(path, b"/why/") {
-        return Ok(Some(Look::Why(unescaped(alloc, rest)?)));
+    match detail_of(path) {
+        Some((detail, rest)) => Ok(Some(Look::Detail(detail, unescaped(alloc, rest)?))),
+        None => Ok(None),
     }
-    if let Some(rest) = rest_after(path, b"/show/operations/") {
-        return Ok(Some(Look::ShowOperations(unescaped(alloc, rest)?)));
-    }
-    if let Some(rest) = rest_after(path, b"/started/") {
-        return Ok(Some(Look::StartedOn(unescaped(alloc, rest)?)));
-    }
-    if let Some(rest) = rest_after(path, b"/show/dependencies/") {
-        return Ok(Some(Look::ShowDependencies(unescaped(alloc, rest)?)));
-    }
-    if let Some(rest) = rest_after(path, b"/show/reach/") {
-        return Ok(Some(Look::ShowReach(unescaped(alloc, rest)?)));
-    }
-    if let Some(rest) = rest_after(path, b"/show/intervals/") {
-        return Ok(Some(Look::ShowIntervals(unescaped(alloc, rest)?)));
-    }
-    Ok(None)
 }
 
 /// What the first line of a request looks at, or that it does so by another method; none where its path is no look's.
@@ -153,7 +171,7 @@ pub(crate) fn look_of_line(
 ) -> Result<Option<Result<Look, Rejection>>, AllocError>
     ensures { IfOk result (λ found. MatchOption found (NoLook target.now) (LooksAt method.now target.now)) }
 {
-    let Some(look) = look_of(alloc, path_of(target))? else {
+    let Some(look) = look_of(alloc, target)? else {
         return Ok(None);
     };
     if method != Method::Get.as_str().as_bytes() {

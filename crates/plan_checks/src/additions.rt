@@ -34,6 +34,8 @@ fn is_within_limits(
 
 // With what is added, no path of pairs returns to its start, the plan holds no more than it may, and no need is of more than
 // there is.
+// What is added is taken in to see whether a path closes, let go, and made anew where it is accepted: so a check changes nothing,
+// and a change refuses nothing.
 fn check_grown(alloc: Global, plan: &Statuses<'_>, parts: &ExtensionParts) -> Result<(), Refusal>
     requires parts { AreExtensionParts parts.now }
     requires known { MayBeAdded plan.now (added_of parts.now) Refusal.UnknownOperation }

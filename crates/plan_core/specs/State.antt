@@ -59,6 +59,7 @@ pub record IsPreparedBy (request : Request) (s : PlanState) (p : PreparedState) 
   pub fits : FitsPlan s p
 
 -- some request does
+-- (only another request that is applied undoes it, since nothing else changes the plan)
 pub record IsPreparedFor (s : PlanState) (p : PreparedState) : Type 0 where
   pub request : Request
   pub by : IsPreparedBy request s p

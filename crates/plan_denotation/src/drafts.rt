@@ -14,6 +14,7 @@ use plan_items::Item;
 use std::alloc::{AllocError, Global};
 
 /// What records may denote: a plan to be loaded, an addition to one, an extension of it.
+// A method of the types themselves would stand in plan_drafts, and all that needs these types alone would wait for its proofs.
 pub trait Build: Sized {
     /// What the records of a text denote; `None` where they denote nothing of this kind. They may come in any order. The error is
     /// always `Memory`.

@@ -70,6 +70,7 @@ where
 }
 
 /// Does what the words ask for, at desks whose databases are files, and has standard output take all of the answer.
+// It is flushed before the status is chosen: where that fails it is a fault, though the request was accepted.
 fn do_asked<W: Write>(
     rt: &HostRuntime,
     asked: &ArgMatches,

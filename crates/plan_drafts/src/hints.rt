@@ -7,6 +7,7 @@ use std::alloc::{AllocError, Global};
 const SLOTS_EACH: usize = 4;
 
 /// Indices of keys, each in the slot of its key.
+// A map of the standard library would need `Hash` of the keys, with what it promises; of slots nothing has to be proved.
 #[derive(Drop)]
 pub struct Hints {
     slots: Vec<u32>,

@@ -10,6 +10,7 @@ use plan_basics::{OccKey, OpKey, ResName, WsName};
 use std::alloc::{AllocError, Global};
 
 /// A key that ties with itself only.
+// `Ord` promises a total order and no more: others may tie by it.
 pub trait ExactKey: Ord + Copy {
     ghost exact: { IsAntisymmetric Self.cmp };
 }

@@ -147,6 +147,7 @@ fn no_fields(alloc: Global) -> Result<Vec<Vec<u8>>, AllocError>
 }
 
 /// What the records from here to the end of the text say, one item each.
+// A record becomes its item at once, which takes less memory. One that says nothing ends it, since there is no plan then.
 fn items_left<R: Read>(
     alloc: Global,
     text: &mut Reader<R>,
@@ -186,6 +187,7 @@ fn items_of_source<R: Read + Drop>(
 }
 
 /// What the records that are left of a watched text say, of which no fault is known yet.
+// Whether the reader failed is asked of it alone, since no clause ties an error of `csv` to it.
 fn items_of_watched<R: Read>(
     alloc: Global,
     reader: &mut Watched<R>,

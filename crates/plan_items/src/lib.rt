@@ -94,6 +94,7 @@ pub struct OperationItem {
     /// The moment before which it doesn't start. An empty field means the first moment, which holds nothing back.
     pub not_before: Moment,
     /// Its own deadline. An empty field is `None`: the deadline of its occurrence is meant.
+    // (The item keeps that none was written, since a record says its item whatever other records say.)
     pub deadline: Option<Moment>,
 }
 

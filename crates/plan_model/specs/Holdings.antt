@@ -23,6 +23,7 @@ abbrev pub is_serving : Contents → Name → Operation → Bool
 is_serving P w op = eq_by_cmp name_cmp op.workstation w && (takes (attribute_at P w) && holds_server (marked_status op.mark))
 
 -- the sum of a number over the operations that hold a server of this workstation
+-- (one shape for servers, R1 and R2, so that a running sum keeps each of them alike)
 abbrev pub sum_given_out : Contents → Name → (Operation → ℕ) → ℕ
 sum_given_out P w number = sum_by (λ op. cond (is_serving P w op) (number op) 0) (values P.operations)
 

@@ -36,6 +36,7 @@ abbrev pub OpensAt : Contents → OpKey → ℕ → Type 0
 OpensAt P o m = Has P o (λ op. (ws : Workstation) × (x : OpenInterval) × (get P.workstations op.workstation ≡ Some ws) × (get ws.intervals m ≡ Some x))
 
 -- q begins before this minute, ends then, and has some of what lacks by a reason
+-- (what frees something had it before, so that a path leads back)
 abbrev pub IsFreeing : Forecast → ℕ → Option Reason → OpKey → Type 0
 IsFreeing F m lack q = EndsAt F m q × ((b : ℕ) × BeginsFrom F q b × (b < m)) × HasOf F.plan.contents q lack
 

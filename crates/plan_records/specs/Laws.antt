@@ -30,6 +30,7 @@ pub record IsProvidedFor (P : Contents) (o : OpKey) (m : ℕ) : Type 0 where
   pub provided : Has P o (λ op. MayStart P o op m refusal.Closed × MayStart P o op m refusal.NoServer × MayStart P o op m refusal.NoFixed × MayStart P o op m refusal.ResourceBusy)
 
 -- that from which o is named: what the request changes what the plan holds to, with the operations that are named before o marked so
+-- (the plan before the request would let two take one server: what is named before o holds what it takes)
 abbrev pub IsAtNaming : Plan → Request → Answer → OpKey → Contents → Type 0
 IsAtNaming P q reply o at_start =
     (changed : Contents) × (before : List OpKey) × (after : List OpKey)
@@ -55,6 +56,7 @@ request_of (plain q) = q
 request_of (numbered n) = n.request
 
 -- the same, after any run from a sound plan, as from the empty one, and whatever the next call is
+-- (any sound plan, since a desk may be opened on one)
 abbrev pub ReachedStartsAreProvidedFor : Type 0
 ReachedStartsAreProvidedFor =
     (first : State) (calls : List Call) (replies : List Answer) (s t : State) (u v : Usable) (c : Call) (reply : Answer)

@@ -29,6 +29,7 @@ pub data Usable : Type 0 where
   to_be_reopened : Usable
 
 -- a step, or want of memory, or a fault of the store, after which each call is answered that the desk is to be reopened
+-- (both may answer any call, so calls determine a run only where neither does)
 abbrev pub Answers : State → Usable → Call → Answer → State → Usable → Type 0
 Answers s usable c (refused refusal.Memory) t u = (t ≡ s) × (u ≡ usable)
 Answers s usable c (refused refusal.Store) t u = (t ≡ s) × (u ≡ to_be_reopened)

@@ -49,6 +49,7 @@ Leaves s None (opening nothing) t d = (t ≡ s) × (d ≡ None)
 Leaves s d event t e = ⊥
 
 -- what an event makes of the version: a call needs the second; an opening that finds a state leaves the second, and one that answers nothing may have, where the tables hold a desk's state
+-- (what was called under the first stands before a schedule, by Begins, so that a tracker's numbers stay used up)
 abbrev pub LeavesVersion : State → ℕ → Event → ℕ → Type 0
 LeavesVersion s v (ended c reply) w = (v ≡ 2) × (w ≡ 2)
 LeavesVersion s v (stopped c d) w = (v ≡ 2) × (w ≡ 2)

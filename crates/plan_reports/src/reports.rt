@@ -36,6 +36,7 @@ impl From<Refusal> for ReportFault {
 }
 
 // Writes a text, and flushes the writer.
+// The text is whole by then, so that a refusal or want of memory leaves the writer as it was.
 fn deliver<W: Write>(text: &[u8], writer: &mut Watched<W>) -> Result<(), ReportFault>
     requires { failed_of writer.old ≡ false }
     ensures written { OnOk result (Appends (W.contents (inner_of writer.old)) (W.contents (inner_of writer.new)) text.now) }

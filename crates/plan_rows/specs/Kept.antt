@@ -22,6 +22,8 @@ abbrev pub IsKeptIn : Contents → OpKey → Operation → Type 0
 IsKeptIn Q o op = (m : Mark) × (get Q.operations o ≡ Some (with_mark m op)) × MarkGoesOn op.mark m
 
 -- each operation of P is kept in Q
+-- (each request that works all out afresh leads to such a one, but an extension: so rows of what stays are told without a look,
+-- since where the status stays the mark does)
 abbrev pub KeepsRecords : Contents → Contents → Type 0
 KeepsRecords P Q = (o : OpKey) (op : Operation) → get P.operations o ≡ Some op → IsKeptIn Q o op
 

@@ -19,6 +19,7 @@ IsRun sql values old new (Ok _) = (count : ℕ) × ExecutesInside 0 sql values o
 IsRun sql values old new (Err e) = ExecutesInside 0 sql values old new (Err e)
 
 -- a call within a transaction: what it makes is seen inside, nothing is committed, and no crash finds it
+-- (one record for all calls, so that they join by the same lemmas)
 pub record RunsWithin (Makes : Database → Database → Type 0) (old new : State) (r : Result (Unit {0}) Error) : Type 0 where
   pub made : HasCleanDisk new → IsTrue old.in_transaction → OnOk r (Makes old.now new.now)
   pub inside : HasCleanDisk new → IsTrue old.in_transaction → OnOk r (IsTrue new.in_transaction × (new.committed ≡ old.committed))

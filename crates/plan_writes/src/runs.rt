@@ -9,6 +9,7 @@ use sqlite::types::ValueRef;
 use sqlite::{Alter, Error, Transaction};
 
 /// Runs a text within a transaction, or tells why not; how many rows it changes isn't told.
+// The number is dropped here, so that nobody can tell a wrong one.
 pub fn run_text<S: Alter>(
     tx: &mut Transaction<'_, S>,
     sql: &str,

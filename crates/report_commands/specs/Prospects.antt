@@ -29,7 +29,7 @@ use Rattle.report_commands.specs.declared.prospects.Prospect.TheVariants as pros
 -- the text tells so of the night ahead, read off a forecast of this plan from a minute on, and up to that one, if one is asked for; of what is going it isn't known since when
 abbrev pub IsProspect : Prospect → Plan → ℕ → Option ℕ → List ℕ → Type 0
 IsProspect prospect.Forecast P from until text = IsForecastText P unknown from until text
-IsProspect prospect.Board P from until text = IsBoard P unknown from until (record { is_still = false; watch = None }) text
+IsProspect prospect.Board P from until text = IsBoard P unknown from (record { is_still = false; until = until }) None text
 
 -- a tick at this minute, be it one that a plan can name or not
 abbrev pub tick_at : ℤ → Request

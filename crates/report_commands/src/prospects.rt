@@ -33,6 +33,7 @@ pub enum Prospect {
 }
 
 // The first and the last moment of a forecast of a plan, as they are asked for; else the refusal that applies.
+// A last moment before the first is refused too: such a forecast has its first tick alone, and would tell nothing.
 fn span_of(plan: &Plan, from: i64, until: Option<i64>) -> Result<(Moment, Option<Moment>), Refusal>
     ensures first { IfOk result (λ span. from ≡ pos span.0) }
     ensures last { IfOk result (λ span. until ≡ option_map pos span.1) }
@@ -60,13 +61,15 @@ fn text_between(
     ensures refused { IfErr result (λ r. (r ≡ Refusal.Memory) ⊎ Step plan.now.plan (tick_at (pos from)) (refused r) plan.now.plan) }
 {
     let known = KnownStarts::none(plan.alloc());
-    let view = View {
-        is_still: false,
-        watch: None,
-    };
     match prospect {
         Prospect::Forecast => forecast_made(plan, &known, from, until),
-        Prospect::Board => board_made(plan, &known, from, until, &view),
+        Prospect::Board => {
+            let view = View {
+                is_still: false,
+                until,
+            };
+            board_made(plan, &known, from, view, &None)
+        }
     }
 }
 

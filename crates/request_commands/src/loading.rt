@@ -37,6 +37,7 @@ pub fn check<W: Write>(
 }
 
 // Loads a draft over a connection, shows the answer and closes the database. What is shown stands also where that fails.
+// It is shown first, since what is committed stands even where the log can't be copied into the file.
 fn load_over<S: Alter + Drop, W: Write>(
     alloc: Global,
     conn: Connection<S>,

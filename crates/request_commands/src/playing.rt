@@ -75,6 +75,7 @@ fn tell_turn<W: Write>(out: &mut Watched<W>, reply: &Reply) -> Result<bool, Faul
 }
 
 // Has a desk answer a request, shows the answer, and tells whether it refuses.
+// By `call`, not by `run_all`: so each answer is shown before the next line is read, and one request is held.
 fn play_turn<S: Alter + Drop, W: Write>(
     desk: &mut Desk<S>,
     request: &Request,

@@ -1,19 +1,18 @@
 -- Whether a member is of its form, by what is read of it.
-use Rattle.std.proofs.Common.{◌≡◌, ◌≢◌, ◌↔◌, inl, inr, ℕ, List, map, Bool, true, false, IsTrue, true≢false, Option, Some, None, option_map, option_and_then, is_some, MatchOption, Vec, Global, refl, sym, subst, ◌∙◌, codes}
+use Rattle.std.proofs.Common.{◌≡◌, ◌≢◌, ◌↔◌, ℕ, List, Bool, true, false, IsTrue, true≢false, Option, Some, None, option_map, option_and_then, is_some, MatchOption, Vec, Global, refl, sym, subst, ◌∙◌, codes}
 use Rattle.std.specs.List.{AllZip}
 use Rattle.plan_basics.specs.Intervals.{OpenInterval}
 use Rattle.plan_items.specs.Parts.{IsReading}
 use Rattle.serde_json.specs.Data.{Data, boolean, string, array}
 use Rattle.serde_json.specs.Find.{get, as_array, as_bool, as_str}
-use Rattle.serde_json.specs.View.{view, items_of, items_view}
-use Rattle.serde_json.specs.declared.value.Value.{Value}
+use Rattle.serde_json.specs.View.{items_of}
 use Rattle.request_json.specs.Members.{HasMember}
 use Rattle.request_json.specs.Intervals.{IsIntervalOf}
 use Rattle.request_json.specs.RequestFaults.{IsOperationVerb, IsRecordsVerb, IsVerbOf, IsOfKind, Fits}
 use Rattle.request_json.specs.declared.faults.kinds.MemberName.TheVariants as name
 use Rattle.request_json.specs.declared.faults.kinds.RequestKind.{RequestKind}
 use Rattle.request_json.specs.declared.faults.kinds.RequestKind.TheVariants as kind
-use Rattle.request_json.proofs.Texts.{text_there, array_there}
+use Rattle.request_json.proofs.Texts.{text_there}
 use Rattle.request_json.proofs.Said.{items_apart}
 
 -- what was read is there

@@ -10,3 +10,5 @@ pub mod Wholes
 pub mod Exactly
 pub mod Found
 pub mod RequestFaultLaws
+pub mod ReportFaultLaws
+pub mod BroughtRecords

@@ -14,6 +14,7 @@ use Rattle.serde_json.specs.Find.{get, as_object}
 use Rattle.serde_json.specs.View.{items_of}
 use Rattle.request_json.specs.Members.{Member, IsJsonOf, HasMember, HasText, member_count}
 use Rattle.request_json.specs.Counted.{HasBeside, SaysBeside}
+use Rattle.request_json.specs.Intervals.{whole}
 use Rattle.request_json.specs.Requests.{SpellsOperation, NamesOperation, Asks, SaysRequest}
 use Rattle.request_json.specs.RequestFaults.{member_text, IsOperationVerb, IsRecordsVerb, IsVerbOf, first_of_kind, second_of_kind, IsOfKind, Fits, IsFaultOfMember, IsFaultOfAny, has, known_members, HasOthers, IsFaultOfKind, IsFaultOfObject, IsFaultOfValue, IsRequestFault, SaysSomeRequest, ReadsAsSomeRequest}
 use Rattle.request_json.proofs.Exactly.{request_of, beside_of}
@@ -65,6 +66,9 @@ there d name.Resource fit = (string fit.0, fit.1.1)
 there d name.Value fit = (boolean fit.0, fit.1)
 there d name.Ws fit = (string fit.0, fit.1.1)
 there d name.Intervals fit = (array (items_of fit.0), fit.2)
+there d name.Tracker fit = (string fit.0, fit.1.1)
+there d name.Number fit = (whole fit.0, fit.2)
+there d name.ReportDo fit = (string fit.0, fit.1)
 
 no_fault : (d : Data) (m : MemberName) → Fits d m → (f : RequestFault) → ¬ IsFaultOfMember d m f
 no_fault d m fit (fault.Missing n) h = let t = there d m fit in absurd (cc (t.1, h.1))
@@ -411,7 +415,7 @@ other_count d n k h differ e = let same : n + 0 ≡ k = cc (h, e) in differ (sym
 pub contains_none : (f : RequestFault) → ¬ Contains [] f
 contains_none f h = let lt = h.1 in absurd (omega (arith, lt))
 
-contains_one : (g f : RequestFault) → Contains (g ∷ []) f ↔ (g ≡ f)
+pub contains_one : (g f : RequestFault) → Contains (g ∷ []) f ↔ (g ≡ f)
 contains_one g f = (
   λ h. elim (Contains-push_cases [] g f h) [ inl nowhere ↦ absurd (contains_none f nowhere) | inr same ↦ same ],
   λ same. subst (Contains (g ∷ [])) same (zero, omega arith, refl),

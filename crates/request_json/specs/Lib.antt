@@ -5,3 +5,5 @@ pub mod Requests
 pub mod Counted
 pub mod Replies
 pub mod RequestFaults
+pub mod ReportFaults
+pub mod Brought

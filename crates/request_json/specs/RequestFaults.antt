@@ -1,10 +1,11 @@
 -- The faults of a request's text, member by member.
-use Rattle.std.specs.Prelude.{◌≡◌, ◌≢◌, ◌⊎◌, ℕ, ℤ, ◌+◌, Bool, List, [], codes, Option, Some, None, Vec, is_some, if◌then◌else◌}
+use Rattle.std.specs.Prelude.{◌≡◌, ◌≢◌, ◌⊎◌, ℕ, ℤ, ◌+◌, ◌≤◌, Bool, List, [], codes, Option, Some, None, Vec, is_some, if◌then◌else◌}
 use Rattle.std.specs.List.{AllZip}
 use Rattle.std.specs.declared.alloc.Global.{Global}
 use Rattle.plan_basics.specs.Intervals.{OpenInterval}
 use Rattle.plan_basics.specs.declared.keys.OccKey.{OccKey}
 use Rattle.plan_basics.specs.declared.keys.OpKey.{OpKey}
+use Rattle.plan_basics.specs.declared.limits.TheConstants.{GREATEST_REQUEST_NUMBER}
 use Rattle.plan_basics.specs.Minutes.{IsMinuteText}
 use Rattle.plan_basics.specs.Names.{IsName, IsResourceName}
 use Rattle.plan_records.specs.declared.Request.{Request}
@@ -12,7 +13,8 @@ use Rattle.serde_json.specs.Data.{Data, boolean, string, array}
 use Rattle.serde_json.specs.Find.{get, as_object}
 use Rattle.serde_json.specs.View.{items_of}
 use Rattle.request_json.specs.Members.{IsJsonOf, HasMember, HasText, IsNameAt, member_count}
-use Rattle.request_json.specs.Intervals.{IsIntervalOf}
+use Rattle.request_json.specs.Counted.{IsReportVerb}
+use Rattle.request_json.specs.Intervals.{whole, IsIntervalOf}
 use Rattle.request_json.specs.Requests.{SpellsOperation, SpellsOccurrence, SaysRequest, ReadsAsRequest}
 use Rattle.request_json.specs.declared.faults.kinds.MemberName.{MemberName}
 use Rattle.request_json.specs.declared.faults.kinds.MemberName.TheVariants as name
@@ -35,6 +37,9 @@ member_text name.Resource = codes "resource"
 member_text name.Value = codes "value"
 member_text name.Ws = codes "ws"
 member_text name.Intervals = codes "intervals"
+member_text name.Tracker = codes "tracker"
+member_text name.Number = codes "number"
+member_text name.ReportDo = codes "do"
 
 -- the `do` of what is asked of an operation by its key alone
 abbrev pub IsOperationVerb : List ℕ → Type 0
@@ -79,7 +84,7 @@ second_of_kind _ = None
 abbrev pub IsOfKind : Data → RequestKind → Type 0
 IsOfKind d k = HasText d (codes "do") (IsVerbOf k)
 
--- the value has the member, and it is of its form: a date and time, a known `do`, a key, a name, a text of any kind, true or false, an array of intervals
+-- the value has the member, and it is of its form: a date and time, a known `do`, a key, a name, a text of any kind, true or false, an array of intervals, a number, a report's `do`
 abbrev pub Fits : Data → MemberName → Type 0
 Fits d name.At = (minute : ℤ) × HasText d (codes "at") (λ text. IsMinuteText text minute)
 Fits d name.Do = (k : RequestKind) × IsOfKind d k
@@ -93,6 +98,9 @@ Fits d name.Resource = (resource : List ℕ) × IsNameAt d (codes "resource") Is
 Fits d name.Value = (value : Bool) × HasMember d (codes "value", boolean value)
 Fits d name.Ws = (workstation : List ℕ) × IsNameAt d (codes "ws") (IsName 4) workstation
 Fits d name.Intervals = (rows : List Data) × (intervals : Vec OpenInterval Global) × HasMember d (codes "intervals", array (items_of rows)) × AllZip IsIntervalOf rows intervals.items
+Fits d name.Tracker = (tracker : List ℕ) × IsNameAt d (codes "tracker") (IsName 8) tracker
+Fits d name.Number = (number : ℕ) × (number ≤ GREATEST_REQUEST_NUMBER) × HasMember d (codes "number", whole number)
+Fits d name.ReportDo = HasText d (codes "do") IsReportVerb
 
 -- what is wrong with one member that the request must have: it isn't there, or isn't of its form
 abbrev pub IsFaultOfMember : Data → MemberName → RequestFault → Type 0
@@ -149,4 +157,5 @@ abbrev pub place_text : RequestFault → List ℕ
 place_text (fault.Missing m) = member_text m
 place_text (fault.Wrong m) = member_text m
 place_text fault.Others = codes "do"
+place_text fault.OthersInReport = codes "do"
 place_text _ = codes "request"

@@ -37,12 +37,15 @@ mod requests;
 mod rows;
 pub mod verbs;
 
-pub use faults::{MemberName, RequestFault, RequestKind, faults_of_request, request_fault_text};
+pub use faults::{
+    MemberName, RequestFault, RequestKind, faults_of_report, faults_of_request, request_fault_text,
+};
 use members::{number_at, text_at, tracker_at};
 use operations::is_report;
 use plan_basics::TrackerName;
 pub use plan_import::{ImportFault, read_extension, read_plan};
 pub use plan_records::{Request, What};
+pub use records::{Brought, brought_records};
 pub use replies::{fault_text, reply_text};
 use requests::read_request;
 pub use rows::{OccurrenceRow, ReadyRow, occurrences_text, ready_text};

@@ -39,6 +39,7 @@ pub fn array_at<'v>(value: &'v Value, name: &str) -> Option<&'v [Value]>
 }
 
 /// The minute of a member.
+// It may be one that no plan can name, which the desk refuses; a key with such a moment is no key.
 pub fn minute_at(value: &Value, name: &str) -> Option<i64>
     ensures { IsReading (λ minute. HasText (view value.now) name.now (λ text. IsMinuteText text minute)) result }
 {

@@ -81,14 +81,31 @@ const ALL: [&str; 19] = [
     INTERVALS,
 ];
 
-/// All of them in words, the last behind `or`.
-pub(crate) fn all_verbs(alloc: Global) -> Result<String, AllocError> {
+// Those of a tracker's report.
+const OF_REPORTS: [&str; 5] = [STARTED, ENDED, ERROR, INTERRUPTED, UNKNOWN];
+
+// These in words, the last behind `or`.
+fn in_words(alloc: Global, verbs: &[&'static str]) -> Result<String, AllocError> {
     let mut text = String::new(alloc);
-    for place in 0..ALL.len() {
+    for place in 0..verbs.len() {
         if place > 0 {
-            text.push_str(if place + 1 < ALL.len() { ", " } else { " or " })?;
+            text.push_str(if place + 1 < verbs.len() {
+                ", "
+            } else {
+                " or "
+            })?;
         }
-        text.push_str(ALL[place])?;
+        text.push_str(verbs[place])?;
     }
     Ok(text)
+}
+
+/// All of them in words.
+pub(crate) fn all_verbs(alloc: Global) -> Result<String, AllocError> {
+    in_words(alloc, &ALL)
+}
+
+/// Those of a report in words.
+pub(crate) fn report_verbs(alloc: Global) -> Result<String, AllocError> {
+    in_words(alloc, &OF_REPORTS)
 }

@@ -134,6 +134,9 @@ fn lower_all<R: Rules>(
 // takes a look at each node that comes to wait for no predecessor.
 //
 // Refused where a growth was refused. Then as on success the journal leads back to what stood before.
+//
+// Work is done in no order: a node is satisfied once, so a count of those that aren't bounds it, and no rank is needed. Looks
+// are bounded by a potential, how many aren't satisfied and wait for some predecessor.
 fn spread<R: Rules>(
     graph: &Graph,
     rules: &mut R,

@@ -36,6 +36,7 @@ pub struct Allocations {
 
 impl Allocations {
     /// A copy. The error is always `Memory`.
+    // A trial works in a copy, since this is short; the other parts of the figures are moved there and back.
     pub fn try_clone(&self, alloc: Global) -> Result<Allocations, Refusal>
         ensures allocations { (P : Contents) → AreAllocationsOf P self.now → IfOk result (AreAllocationsOf P) }
         ensures refused { IfErr result (λ r. r ≡ Refusal.Memory) }

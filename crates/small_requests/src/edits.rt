@@ -115,6 +115,7 @@ fn noted_edit(
 
 /// What a small request edits in whose way nothing stands at its moment: nothing where the flag that it writes stands so already. It
 /// takes a look at each operation that it edits, and one where it edits nothing. The error is always `Memory`.
+// Where the flag stands so, no row changes and few looks are allowed: so nothing is edited.
 pub fn edit_of(
     alloc: Global,
     records: &mut CountedRecords,

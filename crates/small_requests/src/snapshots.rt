@@ -15,6 +15,7 @@ use status_rules::{Counts, Status};
 use std::alloc::{AllocError, Global};
 
 /// What columns have at some places of operations, and at those of their occurrences.
+// Right columns of two plans agree where nothing is touched: so what stands at touched places leads there and back.
 #[derive(Drop)]
 pub struct Snapshot {
     pub wait_states: Vec<(usize, WaitState)>,

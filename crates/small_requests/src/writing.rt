@@ -31,6 +31,8 @@ pub fn with_revision(records: CountedRecords, keys: &[OpKey], revision: Revision
 }
 
 /// The records, with these operations, which were chosen, marked named. It takes no memory and no look.
+// A rerun of an operation without neighbours that is named at once takes all looks that are allowed; one for its mark would be
+// too many, and so would one on the way back.
 pub fn with_named(records: CountedRecords, named: &[OpKey]) -> CountedRecords
     requires { (m : ℕ) × IsChosen records.contents m named.now }
     ensures contents { result.contents ≡ named_in named.now records.contents }

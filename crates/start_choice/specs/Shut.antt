@@ -10,6 +10,7 @@ abbrev pub IsShut : Workstation → ℕ → Capacity → Type 0
 IsShut w m taken = (¬ HasRoom w m taken 0 0 refusal.Closed) ⊎ (¬ HasRoom w m taken 0 0 refusal.NoServer)
 
 -- each workstation has its index in both lists, and where it is told to be shut it is, by what it has given out
+-- (a shut one need not be told to be: that costs a look, and changes no answer)
 pub record AreShut (rows : List NamedWorkstation) (m : ℕ) (given : List Capacity) (shut : List Bool) : Type 0 where
   pub sized : length given ≡ length rows
   pub told : length shut ≡ length rows

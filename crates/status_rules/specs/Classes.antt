@@ -1,4 +1,5 @@
 -- Classes of statuses and of marks: by them operations are listed, started, reported and commanded, and hold what they took, and occurrences leave.
+-- Rules that read better over operations, as IsReady, are stated so; a law says that both are the same (ClassesOfStatus).
 use Rattle.std.specs.Prelude.{Bool, true, false, ◌||◌, Option, Some}
 use Rattle.status_rules.specs.declared.Mark.{Mark}
 use Rattle.status_rules.specs.declared.Mark.TheVariants as mark

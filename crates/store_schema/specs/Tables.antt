@@ -44,5 +44,6 @@ abbrev pub table : List ℕ → List Column → ℕ → Table
 table name columns key = placed name columns key 0
 
 -- a table whose key is its first column, an integer, and so the rowid
+-- (so it is with `meta` alone, which has lemmas of its own; those of the other tables speak of any key of the first columns)
 abbrev pub placed_by_rowid : List ℕ → List Column → ℕ → Table
 placed_by_rowid name columns tree = bare_table name columns (Some 0) (0 ∷ []) [] [] tree

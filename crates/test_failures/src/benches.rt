@@ -1,7 +1,6 @@
 // Desks over a store, of which contracts see nothing: each call of a desk is made here alone.
 use desk_serving::{
-    Desk, KnownStarts, Plan, ReportFault, Terms, View, open_again, ready_report, serve_one,
-    serve_wanted,
+    Desk, KnownStarts, Plan, ReportFault, Terms, open_again, ready_report, serve_one, serve_wanted,
 };
 pub use desk_serving::{Journal, ServeFault, WireFault, read_operator};
 use plan_basics::{OpKey, Refusal, TrackerName, Watched, WsName};
@@ -104,10 +103,7 @@ fn a_day_ahead(alloc: Global) -> Terms {
         ahead: Some(1440),
         bound: false,
         known: KnownStarts::none(alloc),
-        view: View {
-            is_still: false,
-            watch: None,
-        },
+        watch: None,
     }
 }
 

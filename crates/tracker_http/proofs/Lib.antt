@@ -2,4 +2,4 @@ pub mod Ended
 mod Continuing
 mod Unguarded
 mod Breaking
-mod Faulted
+pub mod Faulted

@@ -62,6 +62,7 @@ pub fn send<W: Write>(writer: &mut Watched<W>, reply: &[u8]) -> Result<(), WireF
 /// where the bytes are known, of what they say (`ends`). Where the tables held what the desk holds and the store is clean
 /// afterwards, they hold what the desk holds then (`continues`); and where the disk returns what was written, a store that was
 /// open is, unless the desk answered `Memory` or `Store` (`ends`).
+// Want of memory ends it without a reply, so that no memory is kept aside for replies.
 pub fn serve_one<R: Read, W: Write, S: Alter + Drop>(
     alloc: Global,
     reader: &mut Watched<R>,

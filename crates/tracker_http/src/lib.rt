@@ -11,7 +11,7 @@
 //! Bodies are JSON (`request_json`), heads HTTP (`http_messages`); what a reply tells is [`Told`]. What an
 //! exchange is, from the bytes of a connection to those of the reply, is one relation (`specs/Exchange.antt`). At a desk
 //! that is served for good a request is asked within the clock's guard, and between two lines of a journal, and what is wrong
-//! with an operator's body that is no request is told.
+//! with a body that is no report, or no operator's request, is told.
 #![tactic(auto)]
 
 mod asking;

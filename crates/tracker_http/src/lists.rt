@@ -44,6 +44,7 @@ fn occurrence_rows(alloc: Global, views: Occs<'_>) -> Result<Vec<OccurrenceRow>,
 }
 
 // The ready list of the workstation of this name, if there is one.
+// What is no name is unknown too, since a list is asked for by a name.
 fn ready_told(alloc: Global, plan: &Plan, name: &[u8]) -> Result<Told, AllocError>
     ensures { IfOk result (TellsReady name.now plan.now.plan.contents) }
 {

@@ -89,6 +89,7 @@ impl Receipt {
 
 /// The last receipt of each tracker that has one. Contracts see it as the map from trackers to receipts, which is well
 /// formed. Room for the receipts of all trackers is taken when it is made, so that keeping one takes no memory.
+// (A receipt is kept once its request is committed, where nothing may fail any more.)
 #[derive(Drop)]
 pub struct Receipts {
     // In order of the trackers.

@@ -12,7 +12,7 @@ use crate::requests::read_request;
 use serde_json::Value;
 use std::alloc::{AllocError, Global};
 
-/// What is wrong with a request's text.
+/// What is wrong with a request's text, or a report's.
 #[derive(Clone, Copy)]
 pub enum RequestFault {
     /// It is no JSON text.
@@ -25,6 +25,8 @@ pub enum RequestFault {
     Wrong(MemberName),
     /// The object has members beside those that come with its `do`.
     Others,
+    /// So it is in a report.
+    OthersInReport,
 }
 
 // What is wrong with one member, if something is.
@@ -45,7 +47,10 @@ fn fault_of_member(
 }
 
 // A fault that is found goes to the end.
-fn tell(faults: &mut Vec<RequestFault>, found: Option<RequestFault>) -> Result<(), AllocError>
+pub(super) fn tell(
+    faults: &mut Vec<RequestFault>,
+    found: Option<RequestFault>,
+) -> Result<(), AllocError>
     ensures { OnOk result ((f : RequestFault) → Contains faults.new.items f ↔ (Contains faults.old.items f ⊎ (found ≡ Some f))) }
 {
     let Some(fault) = found else {
@@ -56,7 +61,7 @@ fn tell(faults: &mut Vec<RequestFault>, found: Option<RequestFault>) -> Result<(
 }
 
 // What is wrong with a member that must be there goes to the end.
-fn tell_member(
+pub(super) fn tell_member(
     alloc: Global,
     faults: &mut Vec<RequestFault>,
     value: &Value,
@@ -70,7 +75,7 @@ fn tell_member(
 }
 
 // So it does where there is to be such a member.
-fn tell_any(
+pub(super) fn tell_any(
     alloc: Global,
     faults: &mut Vec<RequestFault>,
     value: &Value,
@@ -86,7 +91,7 @@ fn tell_any(
 }
 
 // 1 where a value has a member, else 0.
-fn has_member(value: &Value, name: Option<MemberName>) -> usize
+pub(super) fn has_member(value: &Value, name: Option<MemberName>) -> usize
     ensures count { result ≡ has (view value.now) name }
     ensures few { result ≤ 1 }
 {
@@ -100,8 +105,9 @@ fn has_member(value: &Value, name: Option<MemberName>) -> usize
 }
 
 // How many members of a request of the kind a value has.
-fn known(value: &Value, kind: RequestKind) -> usize
-    ensures { result ≡ known_members (view value.now) kind }
+pub(super) fn known(value: &Value, kind: RequestKind) -> usize
+    ensures count { result ≡ known_members (view value.now) kind }
+    ensures few { result ≤ 4 }
 {
     let at = has_member(value, Some(MemberName::At));
     let verb = has_member(value, Some(MemberName::Do));

@@ -9,8 +9,10 @@ ghost use Rattle.serde_json.specs.View.{view};
 
 use crate::intervals::read_intervals;
 use crate::members::{
-    array_at, code_at, minute_at, occurrence_at, operation_at, resource_at, text_at, workstation_at,
+    array_at, code_at, minute_at, number_at, occurrence_at, operation_at, resource_at, text_at,
+    tracker_at, workstation_at,
 };
+use crate::operations::is_report;
 use crate::verbs::{
     ADD, AVAILABLE, COMPLETE, DELETE, DEPEND, ENDED, ERROR, EXTEND, HOLD, INTERRUPTED, INTERVALS,
     LOAD, NOP, RELEASE, RERUN, STARTED, TICK, UNKNOWN, UNNOP,
@@ -33,6 +35,12 @@ pub enum MemberName {
     Value,
     Ws,
     Intervals,
+    /// Of a report.
+    Tracker,
+    /// Of a report.
+    Number,
+    /// The `do` of a report.
+    ReportDo,
 }
 
 /// What kind of request it is, by the members that come with its `do`.
@@ -73,6 +81,9 @@ pub fn member_name(name: MemberName) -> &'static str
         MemberName::Value => "value",
         MemberName::Ws => "ws",
         MemberName::Intervals => "intervals",
+        MemberName::Tracker => "tracker",
+        MemberName::Number => "number",
+        MemberName::ReportDo => "do",
     }
 }
 
@@ -139,8 +150,8 @@ fn other_kind(verb: &str) -> Option<RequestKind>
     }
 }
 
-// The kind of a request of this `do`.
-fn kind_of_verb(verb: &str) -> Option<RequestKind>
+/// The kind of a request of this `do`.
+pub fn kind_of_verb(verb: &str) -> Option<RequestKind>
     ensures { IsReading (λ k. IsVerbOf k verb.now) result }
 {
     if is_on_operation(verb) {
@@ -187,6 +198,16 @@ fn has_intervals(alloc: Global, value: &Value) -> Result<bool, AllocError>
     Ok(found.is_some())
 }
 
+// Whether the member `do` is a report's.
+fn has_report_verb(value: &Value) -> bool
+    ensures { IsTrue result ↔ Fits (view value.now) name.ReportDo }
+{
+    match text_at(value, "do") {
+        Some(verb) => is_report(verb),
+        None => false,
+    }
+}
+
 /// Whether a value has a member of its form.
 pub fn fits(alloc: Global, value: &Value, name: MemberName) -> Result<bool, AllocError>
     ensures { IfOk result (λ told. IsTrue told ↔ Fits (view value.now) name) }
@@ -204,5 +225,8 @@ pub fn fits(alloc: Global, value: &Value, name: MemberName) -> Result<bool, Allo
         MemberName::Value => Ok(has_flag(value)),
         MemberName::Ws => Ok(workstation_at(value).is_some()),
         MemberName::Intervals => has_intervals(alloc, value),
+        MemberName::Tracker => Ok(tracker_at(value).is_some()),
+        MemberName::Number => Ok(number_at(value).is_some()),
+        MemberName::ReportDo => Ok(has_report_verb(value)),
     }
 }

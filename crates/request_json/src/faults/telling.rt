@@ -6,7 +6,8 @@ ghost use Rattle.request_json.specs.RequestFaults.{place_text};
 use super::finding::RequestFault;
 use super::kinds::{MemberName, RequestKind, first_member, kind_at, member_name, second_member};
 use crate::read_value;
-use crate::verbs::all_verbs;
+use crate::verbs::{all_verbs, report_verbs};
+use plan_basics::limits::GREATEST_REQUEST_NUMBER;
 use plan_basics::{ErrCode, ResName, WsName};
 use serde_json::Value;
 use std::alloc::{AllocError, Global};
@@ -28,6 +29,14 @@ fn may_be(alloc: Global, name: MemberName) -> Result<String, AllocError> {
         MemberName::Intervals => format!(in alloc;
             "an array of arrays of a first minute, an end after it, servers, R1 and R2: [[\"2024-03-01T22:00\",\"2024-03-02T06:00\",1,0,0]]"
         ),
+        MemberName::Tracker => format!(in alloc;
+            "a name of 1 to 8 characters of A-Z, 0-9, @, # and $"
+        ),
+        MemberName::Number => format!(in alloc;
+            "a whole number from 0 to {}",
+            GREATEST_REQUEST_NUMBER
+        ),
+        MemberName::ReportDo => report_verbs(alloc),
     }
 }
 
@@ -47,8 +56,13 @@ fn is_known(kind: RequestKind, name: &str) -> bool {
         || is_name_of(second_member(kind), name)
 }
 
-// The names of a value's other members, each between quotes.
-fn names_of_others(alloc: Global, value: &Value) -> Result<String, AllocError> {
+// Whether a name is that of a member that reports alone have.
+fn is_of_report(name: &str) -> bool {
+    name == "tracker" || name == "number"
+}
+
+// The names of a value's other members than those of a request, or of a report, each between quotes.
+fn names_of_others(alloc: Global, value: &Value, is_report: bool) -> Result<String, AllocError> {
     let mut text = String::new(alloc);
     let Some(kind) = kind_at(value) else {
         return Ok(text);
@@ -57,12 +71,23 @@ fn names_of_others(alloc: Global, value: &Value) -> Result<String, AllocError> {
         return Ok(text);
     };
     for (name, _) in members.iter() {
-        if !is_known(kind, name) {
+        if !is_known(kind, name) && !(is_report && is_of_report(name)) {
             let more = format!(in alloc; " \"{name}\"")?;
             text.push_str(&more)?;
         }
     }
     Ok(text)
+}
+
+// That a body has other members than those of a request, or of a report.
+fn others_text(alloc: Global, body: &[u8], is_report: bool) -> Result<String, AllocError> {
+    match read_value(alloc, body)? {
+        Some(value) => {
+            let names = names_of_others(alloc, &value, is_report)?;
+            format!(in alloc; "unknown member{names}")
+        }
+        None => format!(in alloc; "unknown member"),
+    }
 }
 
 // What is wrong, and what it may be.
@@ -78,13 +103,8 @@ fn wrong_text(alloc: Global, fault: RequestFault, body: &[u8]) -> Result<String,
             let form = may_be(alloc, name)?;
             format!(in alloc; "must be {form}")
         }
-        RequestFault::Others => match read_value(alloc, body)? {
-            Some(value) => {
-                let names = names_of_others(alloc, &value)?;
-                format!(in alloc; "unknown member{names}")
-            }
-            None => format!(in alloc; "unknown member"),
-        },
+        RequestFault::Others => others_text(alloc, body, false),
+        RequestFault::OthersInReport => others_text(alloc, body, true),
     }
 }
 
@@ -97,11 +117,11 @@ fn place_of(fault: RequestFault) -> &'static str
         RequestFault::NoObject => "request",
         RequestFault::Missing(name) => member_name(name),
         RequestFault::Wrong(name) => member_name(name),
-        RequestFault::Others => "do",
+        RequestFault::Others | RequestFault::OthersInReport => "do",
     }
 }
 
-/// What is told of a fault of a request's text: the member, or `request` where it is of the whole, a colon, what is wrong
+/// What is told of a fault of a request's text or a report's: the member, or `request` where it is of the whole, a colon, what is wrong
 /// and what it may be. Other members are told with their names, under `do`. It fails for want of memory only.
 pub fn request_fault_text(
     alloc: Global,

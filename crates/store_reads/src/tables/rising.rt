@@ -28,6 +28,7 @@ fn follows(last: Option<i64>, id: Option<i64>) -> bool
 }
 
 // Whether the rowids are integers, each above the one before it.
+// A write needs that they differ, which no clause of `sqlite` says of a file that somebody else made.
 pub fn rowids_rise(rows: &[Row]) -> bool
     ensures { result ≡ rise_above None rows.now }
 {

@@ -1,18 +1,16 @@
-use Rattle.std.proofs.Common.{◌≡◌, ◌++◌, ◌∷◌, [], List, ℕ, ℤ, subst, rules, to_z-of_z, SFits, w64}
-use Rattle.std.specs.Prelude.{OnOk, codes}
-use Rattle.board_pages.specs.Pieces.{Date, Hour, Markup, Part, bytes}
+use Rattle.std.proofs.Common.{◌++◌, ◌∷◌, [], pos}
+use Rattle.std.specs.Prelude.{codes}
+use Rattle.html_pages.proofs.Bytes.{behind}
+use Rattle.html_pages.specs.Beginnings.{beginning_parts}
+use Rattle.html_pages.specs.Pieces.{date_text, filled, hour_text, only}
 use Rattle.board_pages.specs.declared.markup.TheConstants as markup
 use Rattle.board_pages.proofs.pages.put_clock.Goals as goal
 
--- the clock by its minute, and what has the page loaded again
-abbrev clock_by : ℤ → List ℕ → List Part
-clock_by z again =
-    Markup markup.BEGINNING.now ∷ Markup again ∷ Markup (codes "<title>Board ") ∷ Hour z ∷ Markup (codes "</title>\n<style>\n")
-    ∷ Markup markup.STYLE.now ∷ Markup markup.STYLE_END.now ∷ Markup (codes "</style>\n</head>\n<body>\n<header>\n<h1><small>")
-    ∷ Date z ∷ Markup (codes "</small>") ∷ Hour z ∷ Markup (codes "</h1>\n") ∷ []
-
 pub returns : goal.returns
 returns c =
-    let fits : SFits w64 c.minute-minute.result = search rules in
-    let told = simp to_z-of_z at c.put.ensures in
-    subst (λ (parts : List Part). OnOk c.put.result (c.put.new.page.items ≡ c.args.page.now.items ++ bytes parts)) (λ i. clock_by (c.minute-minute.ensures.value i) (c.refresh.ensures i)) told
+    let page = c.args.page.now.items in
+    let clock = pos c.args.clock in
+    let p0 = beginning_parts c.args.is_still (filled (codes "<title>Board ~</title>\n<style>\n") (hour_text clock ∷ [])) in
+    let p1 = only markup.STYLE_END.now in
+    let p2 = filled (codes "</style>\n</head>\n<body>\n<header>\n<h1><small>~</small>~</h1>\n") (date_text clock ∷ hour_text clock ∷ []) in
+    behind page (p0 ++ p1) p2 (behind page p0 p1 c.in_ok-put_beginning.ensures c.in_ok-put.ensures) c.in_ok-put-2.ensures

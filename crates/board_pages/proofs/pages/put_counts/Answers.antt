@@ -1,9 +1,8 @@
 use Rattle.std.proofs.Common.{◌≡◌, ◌∙◌, ◌++◌, ◌∷◌, [], List, ℕ, Bool, true, false, ap, arith, length, subst}
 use Rattle.std.specs.Prelude.{OnOk, codes, count_by, flat_map}
-use Rattle.forecast_texts.specs.Hands.{hands}
+use Rattle.html_pages.specs.Pieces.{Part, bytes}
 use Rattle.board_pages.specs.Choices.{has_no_end, is_late, is_troubled}
 use Rattle.board_pages.specs.Pages.{count_parts}
-use Rattle.board_pages.specs.Pieces.{Part, bytes}
 use Rattle.forecast_texts.specs.plan_outlooks.specs.declared.rows.OperationOutlook.{OperationOutlook}
 use Rattle.board_pages.proofs.pages.put_counts.Goals as goal
 
@@ -28,7 +27,6 @@ returns c =
     let late = c.late_count.ensures ∙ ap (count_by is_late) c.deref-3.ensures.value in
     let over : c.len.result ≡ length x.over.items = (let n = x.over.ok.0 in omega (arith, c.len.ensures, n)) in
     let named : c.len-2.result ≡ length x.named.items = (let n = x.named.ok.0 in omega (arith, c.len-2.ensures, n)) in
-    let hand : c.len-3.result ≡ length (hands x) = (let n = c.in_ok-by_hand.by_hand.ok.0 in let e = ap length c.in_ok-by_hand.ensures in omega (arith, c.len-3.ensures, n, e)) in
     let going = c.going.ensures ∙ ap (count_by (λ (r : OperationOutlook). r.is_going)) c.deref-4.ensures.value in
     subst (λ (parts : List Part). OnOk c.put_all_counts.result (c.put_all_counts.new.page.items ≡ c.args.page.now.items ++ bytes parts))
-    (λ i. counts_by (troubled i) (c.endless_words.ensures i) (endless i) (late i) (over i) (named i) (hand i) (going i) c.args.complete) c.put_all_counts.ensures
+    (λ i. counts_by (troubled i) (c.endless_words-endless.ensures i) (endless i) (late i) (over i) (named i) c.args.by_hand (going i) c.args.complete) c.put_all_counts.ensures

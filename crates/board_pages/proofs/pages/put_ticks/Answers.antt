@@ -1,8 +1,8 @@
 use Rattle.std.proofs.Common.{◌≡◌, ◌∙◌, ap, sym, arith, append-nil, append_assoc, ℕ, suc, ◌+◌, ◌-◌, ◌<◌, ◌++◌, ◌∷◌, List}
 use Rattle.std.specs.List.{range_with_len}
 use Rattle.std.specs.Prelude.{flat_map}
-use Rattle.board_pages.proofs.Bytes.{bytes_append}
-use Rattle.board_pages.specs.Pieces.{Part, bytes}
+use Rattle.html_pages.proofs.Bytes.{bytes_append}
+use Rattle.html_pages.specs.Pieces.{Part, bytes}
 use Rattle.board_pages.specs.Rows.{tick_parts}
 use Rattle.board_pages.proofs.pages.put_ticks.Goals as goal
 

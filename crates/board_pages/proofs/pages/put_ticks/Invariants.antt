@@ -1,7 +1,7 @@
 use Rattle.std.proofs.Common.{◌≡◌, ◌++◌, ◌-◌}
 use Rattle.std.specs.List.{range_with_len}
 use Rattle.std.specs.Prelude.{flat_map}
-use Rattle.board_pages.specs.Pieces.{bytes}
+use Rattle.html_pages.specs.Pieces.{bytes}
 use Rattle.board_pages.specs.Rows.{tick_parts}
 use Rattle.board_pages.proofs.pages.put_ticks.Given as goal
 

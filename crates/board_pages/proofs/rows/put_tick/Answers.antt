@@ -1,14 +1,14 @@
 use Rattle.std.proofs.Common.{◌≡◌, ◌∙◌, ◌++◌, ◌∷◌, [], List, ℕ, ℤ, ◌<◌, ◌^◌, pos, true, cond, ap, sym, subst, arith, to_z, w64}
 use Rattle.std.proofs.lemmas.Int.{ints}
 use Rattle.std.proofs.lemmas.Bool.Decides.{nat_tests}
-use Rattle.std.specs.Prelude.{OnOk, codes, nat_le}
+use Rattle.std.specs.Prelude.{OnOk, codes, decimal, nat_le}
+use Rattle.html_pages.specs.Pieces.{Part, bytes, filled, minute_text}
 use Rattle.board_pages.specs.Bars.{per_mille, tick_minute}
-use Rattle.board_pages.specs.Pieces.{Day, Hour, Markup, Number, Part, bytes}
 use Rattle.board_pages.proofs.rows.put_tick.Goals as goal
 
 -- an hour by its place and its minute
 abbrev tick_by : ℕ → ℤ → List Part
-tick_by place z = Markup (codes "<span style=\"--p:") ∷ Number place ∷ Markup (codes "\">") ∷ Day z ∷ Markup (codes " ") ∷ Hour z ∷ Markup (codes "</span>") ∷ []
+tick_by place z = filled (codes "<span style=\"--p:~\">~</span>") (decimal place ∷ minute_text z ∷ [])
 
 pub returns : goal.returns
 returns c =

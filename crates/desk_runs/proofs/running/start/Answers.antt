@@ -7,4 +7,4 @@ returns-in-Some-Refused-clause-ending g c =
     refused_shown c.in-Some-Refused.refusal (g.W.Write.contents (inner_of c.args.out.now)) (g.W.Write.contents (inner_of c.tell.new.out)) c.tell.result c.tell.ensures.shown
 
 pub brought_to-requires : goal.brought_to-requires
-brought_to-requires g c = record { known = rw c.plan.ensures.plan at c.in_ok-terms.ensures.first.going }
+brought_to-requires g c = record { known = rw c.plan.ensures.plan at c.in_ok-terms.ensures.first.known.going }

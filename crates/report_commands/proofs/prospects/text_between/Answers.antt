@@ -13,5 +13,5 @@ returns-in-Forecast-clause-text c =
 pub returns-clause-text : goal.returns-clause-text
 returns-clause-text c =
     rw c.in-Board.is
-    (subst (λ known. IfOk c.board_made.result (λ text. IsBoard c.args.plan.now.plan known c.args.from c.args.until (record { is_still = false; watch = None }) text.items))
+    (subst (λ known. IfOk c.board_made.result (λ text. IsBoard c.args.plan.now.plan known c.args.from (record { is_still = false; until = c.args.until }) None text.items))
     (none_known c.none-known.result c.none-known.ensures.entries) c.board_made.ensures.page)

@@ -1,14 +1,18 @@
-use Rattle.std.proofs.Common.{◌≡◌, ◌++◌, ◌∷◌, [], List, subst, rules, to_z-of_z, SFits, w64}
-use Rattle.std.specs.Prelude.{OnOk}
-use Rattle.board_pages.specs.Cells.{joined, late_cell, minute_cell, operation_cell, row_parts, text_cell}
-use Rattle.board_pages.specs.Pieces.{Part, bytes}
+use Rattle.std.proofs.Common.{◌++◌, rules, to_z-of_z, SFits, w64}
 use Rattle.forecast_texts.specs.Columns.{deed_text}
+use Rattle.html_pages.proofs.Bytes.{behind}
+use Rattle.html_pages.specs.Pieces.{minute_if_any, minute_text}
+use Rattle.board_pages.specs.Rows.{cell_parts, late_parts, operation_parts, two_before}
 use Rattle.board_pages.proofs.rows.ByHandRowsLayoutByHand.put.Goals as goal
 
 pub returns : goal.returns
 returns c =
+    let page = c.args.page.now.items in
     let r = c.args.row.now in
-    let fits : SFits w64 c.minute_if_any.result = search rules in
-    let fits1 : SFits w64 c.args.row.now.latest = search rules in
-    let told = simp to_z-of_z at c.put_row.ensures in
-    subst (λ (parts : List Part). OnOk c.put_row.result (c.put_row.new.page.items ≡ c.args.page.now.items ++ bytes parts)) (λ i. row_parts [] (joined (operation_cell r.key ∷ text_cell r.workstation ∷ text_cell (deed_text r.deed) ∷ minute_cell (c.minute_if_any.ensures i) ∷ minute_cell r.latest ∷ late_cell r.late ∷ []))) told
+    let fits : SFits w64 r.latest = search rules in
+    let p0 = operation_parts r.key r.workstation in
+    let p1 = cell_parts (deed_text r.deed) in
+    let p2 = two_before (minute_text (minute_if_any r.at)) (minute_text r.latest) in
+    let t1 = behind page p0 p1 c.in_ok-put_operation.ensures (rw c.deed_text.ensures at c.in_ok-put_cell.ensures) in
+    let t2 = behind page (p0 ++ p1) p2 t1 (simp to_z-of_z at c.in_ok-put.ensures) in
+    behind page (p0 ++ p1 ++ p2) (late_parts r.late) t2 c.in_ok-put_late.ensures

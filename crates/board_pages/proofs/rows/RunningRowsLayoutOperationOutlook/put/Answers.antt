@@ -1,13 +1,10 @@
-use Rattle.std.proofs.Common.{◌≡◌, ◌++◌, ◌∷◌, [], List, subst, rules, to_z-of_z, SFits, w64}
-use Rattle.std.specs.Prelude.{OnOk}
-use Rattle.board_pages.specs.Cells.{joined, minute_cell, operation_cell, row_parts, text_cell}
-use Rattle.board_pages.specs.Pieces.{Part, bytes}
+use Rattle.html_pages.proofs.Bytes.{behind}
+use Rattle.html_pages.specs.Pieces.{minute_if_any, minute_text}
+use Rattle.board_pages.specs.Rows.{operation_parts, two_last}
 use Rattle.board_pages.proofs.rows.RunningRowsLayoutOperationOutlook.put.Goals as goal
 
 pub returns : goal.returns
 returns c =
     let r = c.args.row.now in
-    let fits : SFits w64 c.minute_if_any.result = search rules in
-    let fits1 : SFits w64 c.minute_if_any-2.result = search rules in
-    let told = simp to_z-of_z at c.put_row.ensures in
-    subst (λ (parts : List Part). OnOk c.put_row.result (c.put_row.new.page.items ≡ c.args.page.now.items ++ bytes parts)) (λ i. row_parts [] (joined (operation_cell r.key ∷ text_cell r.workstation ∷ minute_cell (c.minute_if_any.ensures i) ∷ minute_cell (c.minute_if_any-2.ensures i) ∷ []))) told
+    let p1 = two_last (minute_text (minute_if_any r.since)) (minute_text (minute_if_any r.end)) in
+    behind c.args.page.now.items (operation_parts r.key r.workstation) p1 c.in_ok-put_operation.ensures c.in_ok-put.ensures

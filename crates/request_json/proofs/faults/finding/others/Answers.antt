@@ -12,9 +12,9 @@ returns-in_default c =
 pub returns-then-count-known : goal.returns-then-count-known
 returns-then-count-known c =
     let d = view c.args.value.now in
-    no_others_is d c.args.kind (same_count d c.in-Some.count (known_members d c.args.kind) c.in-Some.ensures (c.if-count-known.true ∙ c.known.ensures))
+    no_others_is d c.args.kind (same_count d c.in-Some.count (known_members d c.args.kind) c.in-Some.ensures (c.if-count-known.true ∙ c.known.ensures.count))
 
 pub returns : goal.returns
 returns c =
     let d = view c.args.value.now in
-    others_is d c.args.kind (other_count d c.in-Some.count (known_members d c.args.kind) c.in-Some.ensures (λ e. c.if-count-known.false (e ∙ sym c.known.ensures)))
+    others_is d c.args.kind (other_count d c.in-Some.count (known_members d c.args.kind) c.in-Some.ensures (λ e. c.if-count-known.false (e ∙ sym c.known.ensures.count)))

@@ -1,6 +1,0 @@
-use Rattle.std.proofs.Common.{◌≡◌, ◌++◌, drop}
-use Rattle.board_pages.specs.Pieces.{plain}
-use Rattle.board_pages.proofs.pieces.put_text.Given as goal
-
-abbrev pub invariant-loop-byte : goal.invariant-loop-byte
-invariant-loop-byte l = l.page.items ++ plain (drop l.byte-index l.text) ≡ l.fn.page.items ++ plain l.text
