@@ -160,7 +160,8 @@ function checkOf(request) {
   };
   return el('div', {}, button('Check it', check), lines);
 }
-const faultsOf = reply => Array.isArray(reply.said.faults) ? reply.said.faults.join('\n') || 'no faults' : reply.text;
+const faultsOf = ({said, text}) => Array.isArray(said.faults)
+  ? [...(said.faults.length ? said.faults : ['no faults']), ...(said.warnings || [])].join('\n') : text;
 
 // --- sending
 

@@ -145,9 +145,23 @@ def try_replica(given):
                                                   f"127.0.0.1:{client}",
                                                   "--listen", listen], cwd=site.folder, stdout=subprocess.DEVNULL))
             wait_until(lambda: level(listen), "the replica is level", 0.3)
+            check_at_replica(site, listen)
             return click_at_replica(site, listen, Added(records, site.address, given.plandesk))
         finally:
             site.end()
+
+
+def check_at_replica(site, listen):
+    """What is wrong with an addition is told by the console before a replica, and by `operate`; nothing is asked."""
+    door, before = site.start_door(listen), site.asked()
+    for station, wanted in (("CPU1", []), ("CPU9", ["line 2: operation: workstation: the plan has none of this name"])):
+        records = occurrence_of(f"NEW/{ARRIVAL}", {10: (station, 5)})
+        status, told = ask(door, "POST", "/validate", json.dumps({"at": moment(), "do": "add", "records": records}))
+        judge(status == 200 and json.loads(told)["faults"] == wanted, "a check behind a console", station, status, told)
+        (site.folder / "new.csv").write_text(records)
+        told = done(HERE / "operate", "--desk", listen, "--dry-run", "add", site.folder / "new.csv")
+        judge(told.splitlines()[1:] == (wanted or ["no faults"]), "a dry run at a replica", station, told)
+    judge(site.asked() == before, "nothing is asked", site.asked())
 
 
 def level(address):

@@ -95,13 +95,14 @@ def words(key):
 class Relay(http.server.ThreadingHTTPServer):
     """`lose` is what becomes of the next POST to /operator: "before" it isn't sent on, "behind" its reply isn't, "late" it is
     sent on when `go` is set, and nobody waits for the reply. `answer` is told instead of what is asked for, `hold` waited for
-    before that; `me` is what /me tells. `added` are the looks of a desk that lacks them; `lacks`: it is as a desk without them.
-    `is_kept`: connections are kept, as a front keeps them."""
+    before that; `checked` is told of /validate; `me` is what /me tells. `added` are the looks of a desk that lacks them; `lacks`:
+    it is as a desk without them. `is_kept`: connections are kept, as a front keeps them."""
     request_queue_size = 128
 
     def __init__(self, target, added=None, lacks=False, is_kept=False):
         self.target, self.added, self.lacks, self.lose, self.posts, self.looks = target, added, lacks, None, [], []
         self.go, self.passed_late, self.answer, self.hold, self.me = threading.Event(), threading.Event(), None, None, None
+        self.checked = None
         super().__init__(("127.0.0.1", 0), type("Kept", (Passing,), {"protocol_version": "HTTP/1.1"}) if is_kept else Passing)
         self.address = f"127.0.0.1:{self.server_address[1]}"
         threading.Thread(target=self.serve_forever, daemon=True).start()
@@ -145,6 +146,8 @@ class Passing(http.server.BaseHTTPRequestHandler):
             lose = None
         if self.path == "/validate" and self.server.lacks:
             return self.tell(404, JSON, b'{"error":404}', None)
+        if self.path == "/validate" and self.server.checked:
+            return self.tell(*self.server.checked, None)
         status, media, told, date = self.passed(body)
         if added and status == 404 and self.path == "/validate":
             status, media, told = 200, JSON, json.dumps({"faults": added.faults(body)}).encode()

@@ -3,3 +3,4 @@ mod Clock
 mod Ending
 mod Foreign
 mod Owed
+mod Judged

@@ -37,6 +37,7 @@ use Rattle.plan_reports.specs.plan_shows.specs.declared.shows.Show.{Show}
 use Rattle.plan_reports.specs.plan_shows.specs.declared.shows.Show.TheVariants as show
 use Rattle.plan_reports.specs.Reports.{desk_show_refusal_of, ready_refusal_of, refusal_of, why_refusal_of, IsErrorReport, IsLateReport, IsOccurrenceReport, IsReadyReport, IsWhyReport}
 use Rattle.serde_json.specs.Written.{compact_text}
+use Rattle.desk_serving.specs.Judged.{IsJudgedText}
 use Rattle.desk_serving.specs.declared.terms.Terms.{Terms}
 use Rattle.tracker_http.specs.Told.{reply_of, status_of_refusal}
 use Rattle.tracker_http.specs.declared.told.Told.TheVariants as told
@@ -193,6 +194,10 @@ ShowsIntervals name d output =
     (IsName 4 name × ShowsShow (show.Intervals name) d output)
     ⊎ ((¬ IsName 4 name) × (output ≡ refused_reply (refusal_or refusal.UnknownWorkstation d.is_usable d.plan)))
 
+-- so, what the text of a request is told, which isn't asked
+abbrev pub ShowsJudged : {S : Type 0} → List ℕ → DeskState S → List ℕ → Type 0
+ShowsJudged body d output = ShowsValue (owed_by d.is_usable None) (IsJudgedText d.plan body) output
+
 -- what is shown of one thing, by its name or its key
 abbrev pub ShowsDetail : {S : Type 0} → Detail → List ℕ → DeskState S → List ℕ → Type 0
 ShowsDetail detail.Ready name d output = ShowsReady name d output
@@ -210,3 +215,4 @@ abbrev pub Shows : {S : Type 0} → Terms → Look → DeskState S → List ℕ 
 Shows terms (look.Page p) d output = ShowsPage terms p d output
 Shows terms (look.Board q) d output = ShowsBoard (since_in terms.known) q terms.watch d output
 Shows terms (look.Detail x name) d output = ShowsDetail x name.items d output
+Shows terms (look.Judged text) d output = ShowsJudged text.items d output

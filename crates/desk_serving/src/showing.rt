@@ -8,6 +8,7 @@ ghost use Rattle.serde_json.specs.Written.{compact_text};
 ghost use Rattle.desk_serving.specs.Shown.{owed_by, refusal_or, refused_reply, stood_in, value_reply, Shows, ShowsDetail, ShowsPage, ShowsReady, ShowsShow, ShowsStartedOn};
 
 use super::forecasts::{board_shown, forecast_shown};
+use super::judging::judged_shown;
 use super::keyed::{operations_shown, why_shown};
 use super::tables::{dependencies_shown, intervals_shown, reach_shown};
 use super::terms::Terms;
@@ -43,8 +44,8 @@ pub fn text_shown(alloc: Global, made: Result<Vec<u8>, Refusal>) -> Result<Vec<u
     }
 }
 
-// The reply that tells a value by its text, or why there is none. It fails for want of memory only.
-fn value_shown(alloc: Global, made: Result<Vec<u8>, Refusal>) -> Result<Vec<u8>, AllocError>
+/// The reply that tells a value by its text, or why there is none. It fails for want of memory only.
+pub fn value_shown(alloc: Global, made: Result<Vec<u8>, Refusal>) -> Result<Vec<u8>, AllocError>
     ensures shown { IfOk result (λ output. MatchResult made (λ text. output.items ≡ value_reply text.items) (λ r. output.items ≡ refused_reply r)) }
     ensures memory { made ≡ Err Refusal.Memory → IsErr result }
 {
@@ -208,5 +209,6 @@ pub fn look_shown<S: Alter + Drop>(
         Look::Page(page) => page_shown(alloc, desk, *page, terms),
         Look::Board(query) => board_shown(alloc, desk, &terms.known, *query, &terms.watch),
         Look::Detail(detail, name) => detail_shown(alloc, desk, *detail, name),
+        Look::Judged(text) => judged_shown(alloc, desk, text),
     }
 }

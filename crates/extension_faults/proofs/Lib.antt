@@ -7,3 +7,6 @@ pub mod SaidPairs
 pub mod ToldPaths
 pub mod Excess
 pub mod StayingKeys
+pub mod Lines
+pub mod Lasting
+pub mod NeverTold

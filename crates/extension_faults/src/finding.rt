@@ -23,8 +23,8 @@ pub struct BesideFaults {
     pub lines: Vec<u64>,
 }
 
-// What the record at a place says.
-fn item_at(said: &[Option<Item>], place: usize) -> Option<Item>
+/// What the record at a place says.
+pub fn item_at(said: &[Option<Item>], place: usize) -> Option<Item>
     ensures { result ≡ unwrap_or (slice_get said.now place) None }
 {
     match said.get(place) {

@@ -4,3 +4,4 @@ pub mod Fronts
 pub mod Answered
 pub mod WantedAnswers
 pub mod RoutesFound
+pub mod Judging

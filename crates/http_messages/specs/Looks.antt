@@ -16,7 +16,7 @@ use Rattle.http_messages.specs.Queries.{GoesOnBy, IsBoardQuery, query_of}
 use Rattle.http_messages.specs.Requesters.{IsBy, IsMisnamed}
 use Rattle.http_messages.specs.Routes.{path_of}
 use Rattle.http_messages.specs.Statuses.{method_text}
-use Rattle.http_messages.specs.Tests.{Request, AsksIn, FailsIn, IsRequestIn}
+use Rattle.http_messages.specs.Tests.{Request, AsksIn, FailsIn, HasBodyIn, IsRequestIn}
 
 -- the path of a page
 abbrev pub page_path : Page → List ℕ
@@ -49,6 +49,7 @@ abbrev pub IsLookOf : Look → List ℕ → Type 0
 IsLookOf (look.Page p) target = path_of target ≡ page_path p
 IsLookOf (look.Board q) target = (path_of target ≡ codes "/board") × IsBoardQuery (query_of target) q
 IsLookOf (look.Detail d name) target = GoesOnBy (detail_path d) (path_of target) name.items
+IsLookOf (look.Judged text) target = ⊥
 
 -- the target is no look's
 abbrev pub NoLook : List ℕ → Type 0
@@ -59,11 +60,29 @@ abbrev pub LooksAt : List ℕ → List ℕ → Result Look Rejection → Type 0
 LooksAt m target (Ok l) = IsLookOf l target × (m ≡ method_text method.Get)
 LooksAt m target (Err t) = ((l : Look) × IsLookOf l target) × (m ≢ method_text method.Get) × (t ≡ test.OtherMethod method.Get)
 
--- what a request by this requester comes to: what it looks at; or, where it is no look's, what it asks for, or the first test that it fails
+-- the target's path is that under which a request's text is judged
+abbrev pub IsJudging : List ℕ → Type 0
+IsJudging target = path_of target ≡ codes "/validate"
+
+-- the same request, of the path of operators
+abbrev pub as_operator : Request → Request
+as_operator request = record request { target = codes "/operator" }
+
+-- what a request to judge a text comes to: its body is judged; or the first test that it would fail as an operator's
+abbrev pub ComesToJudged : ℕ → Request → Result Wanted Rejection → Type 0
+ComesToJudged most request (Ok (wanted.Look (look.Judged text))) = HasBodyIn most (as_operator request) text.items
+ComesToJudged most request (Ok _) = ⊥
+ComesToJudged most request (Err t) = FailsIn most (as_operator request) t
+
+-- what any other comes to by this requester: what it looks at; or, where its path is no look's, what it asks for, or the first test that it fails
+abbrev pub ComesToOther : ℕ → Request → Option (List ℕ) → Result Wanted Rejection → Type 0
+ComesToOther most request by (Ok (wanted.Look l)) = LooksAt request.method request.target (Ok l)
+ComesToOther most request by (Ok (wanted.Asked a)) = NoLook request.target × AsksIn most request a.asked × (option_map string_bytes a.by ≡ by)
+ComesToOther most request by (Err t) = LooksAt request.method request.target (Err t) ⊎ (NoLook request.target × FailsIn most request t)
+
+-- what a request by this requester comes to
 abbrev pub ComesToOwn : ℕ → Request → Option (List ℕ) → Result Wanted Rejection → Type 0
-ComesToOwn most request by (Ok (wanted.Look l)) = LooksAt request.method request.target (Ok l)
-ComesToOwn most request by (Ok (wanted.Asked a)) = NoLook request.target × AsksIn most request a.asked × (option_map string_bytes a.by ≡ by)
-ComesToOwn most request by (Err t) = LooksAt request.method request.target (Err t) ⊎ (NoLook request.target × FailsIn most request t)
+ComesToOwn most request by answer = (IsJudging request.target × ComesToJudged most request answer) ⊎ ((¬ IsJudging request.target) × ComesToOther most request by answer)
 
 -- what a request comes to: before all else, that it is foreign, or names who makes it in no form; or what it comes to by its requester
 abbrev pub ComesToWanted : ℕ → Request → Result Wanted Rejection → Type 0

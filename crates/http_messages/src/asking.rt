@@ -1,5 +1,5 @@
 // What a request asks for, or the first test that it fails.
-ghost use Rattle.std.specs.Prelude.{◌≡◌, ◌↔◌, Err, true, false, IfOk, IfSome, MatchResult};
+ghost use Rattle.std.specs.Prelude.{◌≡◌, ◌↔◌, ℕ, List, Err, true, false, IfOk, IfSome, MatchResult};
 ghost use Rattle.plan_basics.specs.Watched.{inner_of, failed_of};
 ghost use Rattle.http_messages.specs.Heads.{request_at};
 ghost use Rattle.http_messages.specs.Tests.{status_of, SendsBody, HasBodyIn, FailsIn, ComesToIn, Answers, AnswersIn};
@@ -105,16 +105,16 @@ impl From<AllocError> for ExchangeFault {
     }
 }
 
-/// The body that a head tells of, or the first test that fails from there on.
-fn body_of<R: Read>(
+/// The body that a head tells of, or the first test that fails from there on, whatever its path.
+pub(crate) fn body_of<R: Read>(
     alloc: Global,
     reader: &mut Watched<R>,
     head: &Head<'_>,
     most: usize,
 ) -> Result<Result<Vec<u8>, Rejection>, ExchangeFault>
     requires fresh { failed_of reader.old ≡ false }
-    ensures body { IfOk result (λ found. IfSome (R.remaining (inner_of reader.old)) (λ left.
-        let request = request_at head.now.bytes.now head.now.headers.now head.now.spans left in
+    ensures body { IfOk result (λ found. (target : List ℕ) → IfSome (R.remaining (inner_of reader.old)) (λ left.
+        let request = record (request_at head.now.bytes.now head.now.headers.now head.now.spans left) { target = target } in
         SendsBody request → MatchResult found (λ body. HasBodyIn most request body.items) (FailsIn most request))) }
     ensures reader_fault { (result ≡ Err ExchangeFault.Reader) ↔ (failed_of reader.new ≡ true) }
 {

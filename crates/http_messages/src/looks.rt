@@ -70,6 +70,8 @@ pub enum Look {
     Board(BoardQuery),
     /// What is shown of one thing, by the bytes of its name or key, which may be none.
     Detail(Detail, Vec<u8>),
+    /// What is wrong with this text of a request, which isn't asked.
+    Judged(Vec<u8>),
 }
 
 // The page of a path, if it has one.

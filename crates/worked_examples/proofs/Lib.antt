@@ -34,3 +34,9 @@ pub mod BackupLeft
 pub mod TrioAgain
 pub mod DailyEnds
 pub mod DailyStopped
+pub mod WrittenLines
+pub mod WrittenTold
+pub mod WrittenRoom
+pub mod WrittenReady
+pub mod WrittenAhead
+pub mod TenAhead

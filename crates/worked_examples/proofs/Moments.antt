@@ -14,7 +14,7 @@ unfolding days_from_civil day_count days_of_years days_of_months
 second_of_march = refl
 
 pub moments_are : MomentsOfTheNight
-moments_are = (rw first_of_march refl, rw first_of_march refl, rw first_of_march refl, rw first_of_march refl, rw second_of_march refl, rw second_of_march refl, rw second_of_march refl, rw second_of_march refl, rw second_of_march refl, rw second_of_march refl, rw second_of_march refl)
+moments_are = (rw first_of_march refl, rw first_of_march refl, rw first_of_march refl, rw first_of_march refl, rw first_of_march refl, rw first_of_march refl, rw second_of_march refl, rw second_of_march refl, rw second_of_march refl, rw second_of_march refl, rw second_of_march refl, rw second_of_march refl, rw second_of_march refl)
 
 -- the latest starts of the night's operations
 pub starts_are : (civil_minute 2024 3 2 2 59 ≡ pos 27437939) × (civil_minute 2024 3 2 3 9 ≡ pos 27437949) × (civil_minute 2024 3 2 3 39 ≡ pos 27437979) × (civil_minute 2024 3 2 4 39 ≡ pos 27438039) × (civil_minute 2024 3 2 4 40 ≡ pos 27438040)

@@ -8,4 +8,6 @@ pub mod Backup
 pub mod Tracker
 pub mod Stopped
 pub mod Begun
+pub mod Written
+pub mod Ahead
 pub mod Statements

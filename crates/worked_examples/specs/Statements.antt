@@ -19,6 +19,7 @@ use Rattle.plan_model.specs.Holdings.{Holds}
 use Rattle.plan_model.specs.Ready.{IsChosen, named}
 use Rattle.plan_model.specs.Starts.{IsLatestStart, MayStart}
 use Rattle.plan_laws.specs.Laws.{IsLeftBy}
+use Rattle.worked_examples.specs.Ahead.{five_to_ten, start_of_payroll}
 use Rattle.worked_examples.specs.Day.{day, evening, first, loaded_at, morning, second}
 use Rattle.worked_examples.specs.Overdue.{old_at, overdue}
 use Rattle.worked_examples.specs.Trio.{aaa, bbb, ccc, by_duration, by_fixed_resource, by_key, by_latest_start, by_priority, three, half_past_three, four, ten_past_four}
@@ -32,6 +33,8 @@ use Rattle.worked_examples.specs.Night.{alone, fourth_held, from_first_again, fr
 abbrev pub MomentsOfTheNight : Type 0
 MomentsOfTheNight =
     (civil_minute 2024 3 1 21 0 ≡ pos loading)
+    × (civil_minute 2024 3 1 21 50 ≡ pos start_of_payroll)
+    × (civil_minute 2024 3 1 21 55 ≡ pos five_to_ten)
     × (civil_minute 2024 3 1 22 0 ≡ pos evening)
     × (civil_minute 2024 3 1 22 40 ≡ pos end_of_second)
     × (civil_minute 2024 3 1 23 0 ≡ pos eleven)

@@ -14,6 +14,7 @@ ghost use Rattle.plan_records.specs.Answer.{refused, accepted};
 ghost use Rattle.plan_basics.specs.declared.Refusal.{Refusal};
 ghost use Rattle.status_rules.specs.declared.Status.{Status};
 ghost use Rattle.worked_examples.specs.Statements.{MomentsOfTheNight, LatestStartsOfTheNight, StatusesWhenLoaded, StatusesAfterTheThird, StatusesOfHeld, StatusesOfPassed, StartsWhileClosed, PairThatLeadsBack, DeletionWhileStarted, SecondLoad, ChoicesForTwoServers, ChoiceForFixedResource, TickThatNames, LatestStartsOfOverdueWork, KeptResource, LoadThatNames, LoadOfTheNight, EndOfTheSecond, RerunOfTheThird, RerunOfTheFirst, BackupAdded, DailyLeaves, NumberedRequest, NumberedAgain, RunToldTwice, TickTwice, EndTwice, ReportStopped, NoOtherIsFound, ReportActsOnce};
+ghost use Rattle.worked_examples.specs.Ahead.{ForecastOfTen};
 ghost use Rattle.worked_examples.specs.Begun.{StartsThatCount, ThirdLastsAnHour};
 ghost use Rattle.worked_examples.specs.Day.{day, idle, loaded_at, first, second, evening};
 
@@ -65,6 +66,11 @@ pub fn statuses_of_the_night()
 pub fn starts_of_the_night()
     ensures lasts { ThirdLastsAnHour }
     ensures counts { StartsThatCount }
+{}
+
+/// Ten operations: their forecast from 22:00 to 06:00 is these requests and no others, with these beginnings and ends.
+pub fn forecast_of_ten()
+    ensures { ForecastOfTen }
 {}
 
 /// A start is refused while no interval of the workstation contains the minute.

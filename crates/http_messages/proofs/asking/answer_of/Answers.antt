@@ -25,14 +25,14 @@ returns-in_ok-body_of-in-Report-clause-answer g c =
     let head = c.args.head.now in
     let line = rw c.in-Report.is at (rw c.in-Ok.is at (c.route_of_line.ensures c.args.most)) in
     sent c.args.most _ (request_at head.bytes.now head.headers.now head.spans) route.Report (λ body. body.items) asked.Report c.in_ok-body_of-in-Report.field-0 c.map.result refl (λ q body has. has)
-    (λ left. of_line (λ q. Takes q route.Report) _ _ head.bytes.now head.headers.now head.spans left c.method.ensures c.target-target.ensures line) c.map.ensures.cases c.in_ok-body_of-in-Report.ensures.body
+    (λ left. of_line (λ q. Takes q route.Report) _ _ head.bytes.now head.headers.now head.spans left c.method.ensures c.target-target.ensures line) c.map.ensures.cases (c.in_ok-body_of-in-Report.ensures.body (request_at head.bytes.now head.headers.now head.spans []).target)
 
 pub returns-in_ok-body_of-in-Operator-clause-answer : goal.returns-in_ok-body_of-in-Operator-clause-answer
 returns-in_ok-body_of-in-Operator-clause-answer g c =
     let head = c.args.head.now in
     let line = rw c.in-Operator.is at (rw c.in-Ok.is at (c.route_of_line.ensures c.args.most)) in
     sent c.args.most _ (request_at head.bytes.now head.headers.now head.spans) route.Operator (λ body. body.items) asked.Operator c.in_ok-body_of-in-Operator.field-0 c.map-in-Operator.result refl (λ q body has. has)
-    (λ left. of_line (λ q. Takes q route.Operator) _ _ head.bytes.now head.headers.now head.spans left c.method.ensures c.target-target.ensures line) c.map-in-Operator.ensures.cases c.in_ok-body_of-in-Operator.ensures.body
+    (λ left. of_line (λ q. Takes q route.Operator) _ _ head.bytes.now head.headers.now head.spans left c.method.ensures c.target-target.ensures line) c.map-in-Operator.ensures.cases (c.in_ok-body_of-in-Operator.ensures.body (request_at head.bytes.now head.headers.now head.spans []).target)
 
 pub returns-in_ok-segment_of-in-Ready-clause-answer : goal.returns-in_ok-segment_of-in-Ready-clause-answer
 returns-in_ok-segment_of-in-Ready-clause-answer g c =
